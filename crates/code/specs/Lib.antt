@@ -1,0 +1,4 @@
+pub mod Passing
+pub mod Points
+pub mod Terms
+pub mod Word

@@ -1,0 +1,1 @@
+// The curve, its words, and their encoding, unencoding and recovery.

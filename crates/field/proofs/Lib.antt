@@ -1,0 +1,12 @@
+pub mod Plus
+pub mod Product
+pub mod Search
+pub mod Table
+pub mod Fields
+pub mod FieldLaws
+pub mod Sums
+pub mod Powers
+pub mod Outcomes
+pub mod Curves
+pub mod Entries
+pub mod Values

@@ -1,0 +1,35 @@
+-- The laws of powers.
+-- Assumes nothing.
+use mathlib.Core.Path.{_≡_, refl, sym, ap, _∙_}
+use Prim.Native.Nat.{ℕ, zero, suc, _+_, _<_}
+use native.Mathlib.Nat.{zero-add, suc-add}
+use native.Mathlib.Numerals.{add-one}
+use Rattle.field.specs.Field.{Field}
+use Rattle.field.specs.Power.{power}
+use Rattle.field.proofs.FieldLaws.{times-one-right}
+
+module _ (F : Field) where
+  pub power-zero : (a : ℕ) → power F a 0 ≡ 1
+  unfolding power
+  power-zero a = refl
+
+  pub power-suc : (a n : ℕ) → power F a (suc n) ≡ F .times a (power F a n)
+  unfolding power
+  power-suc a n = refl
+
+  pub power-next : (a n : ℕ) → power F a (n + 1) ≡ F .times a (power F a n)
+  power-next a n = ap (power F a) (add-one n) ∙ power-suc a n
+
+  pub power-one : (a : ℕ) → a < F .size → power F a 1 ≡ a
+  power-one a l = power-suc a 0 ∙ ap (F .times a) (power-zero a) ∙ times-one-right F a l
+
+  pub power-lt : (a n : ℕ) → power F a n < F .size
+  unfolding power
+  power-lt a zero = F .two-le
+  power-lt a (suc n) = F .times-lt a (power F a n)
+
+  pub power-add : (a m n : ℕ) → power F a (m + n) ≡ F .times (power F a m) (power F a n)
+  unfolding power
+  power-add a zero n = ap (power F a) (zero-add n) ∙ sym (F .times-one (power F a n) (power-lt a n))
+  power-add a (suc m) n =
+      ap (power F a) (suc-add m n) ∙ ap (F .times a) (power-add a m n) ∙ sym (F .times-assoc a (power F a m) (power F a n))

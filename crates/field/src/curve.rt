@@ -1,0 +1,74 @@
+// Each curve's fixed numbers, by type and by q.
+ghost use mathlib.Core.Path.{_≡_};
+ghost use Rattle.field.specs.Curve.{namedOf};
+
+// The curve y^2 + y = x^3.
+pub struct Small;
+
+impl Small {
+    pub const Q: u8 = 4;
+
+    pub const N: usize = 8;
+
+    pub const GENUS: usize = 1;
+
+    pub const WEIGHT_X: usize = 2;
+
+    pub const WEIGHT_Y: usize = 3;
+}
+
+// The curve y^4 + y = x^5.
+pub struct Large;
+
+impl Large {
+    pub const Q: u8 = 16;
+
+    pub const N: usize = 64;
+
+    pub const GENUS: usize = 6;
+
+    pub const WEIGHT_X: usize = 4;
+
+    pub const WEIGHT_Y: usize = 5;
+}
+
+// The numbers of the curve q: its symbols are Q in number, its points n.
+pub struct Curve {
+    pub q: u8,
+    pub symbols: u8,
+    pub points: usize,
+    pub genus: usize,
+    pub weight_x: usize,
+    pub weight_y: usize,
+}
+
+pub enum Named {
+    Is(Curve),
+    Unknown,
+}
+
+impl Curve {
+    pub fn of(q: u8) -> Named
+        ensures { λ r. ⌜ r ≡ namedOf q ⌝ }
+    {
+        match q {
+            2 => Named::Is(Curve {
+                q: 2,
+                symbols: Small::Q,
+                points: Small::N,
+                genus: Small::GENUS,
+                weight_x: Small::WEIGHT_X,
+                weight_y: Small::WEIGHT_Y,
+            }),
+            4 => Named::Is(Curve {
+                q: 4,
+                symbols: Large::Q,
+                points: Large::N,
+                genus: Large::GENUS,
+                weight_x: Large::WEIGHT_X,
+                weight_y: Large::WEIGHT_Y,
+            }),
+            _ => Named::Unknown,
+        }
+    }
+}

@@ -1,0 +1,65 @@
+// The outcomes of all entries of the library.
+ghost use mathlib.Core.Path.{_≡_};
+ghost use Rattle.field.specs.Outcomes.{number, second, packed};
+
+// Done, and a case for each refusal of "Why a call is turned down", in its order.
+pub enum Outcome {
+    Done,
+    BadCurve,
+    BadOrder,
+    BadLength,
+    // the lowest index of a bad value
+    BadValue(u8),
+    BadRoom,
+    BadPlace,
+    BadSymbol,
+    Clash,
+    NoMessage,
+    // the r of Q^r messages that fit
+    Several(u8),
+}
+
+// The refusal number, 0 for Done.
+pub fn number(o: Outcome) -> u8
+    ensures { λ r. ⌜ r ≡ number o ⌝ }
+{
+    match o {
+        Outcome::Done => 0,
+        Outcome::BadCurve => 1,
+        Outcome::BadOrder => 2,
+        Outcome::BadLength => 3,
+        Outcome::BadValue(_) => 4,
+        Outcome::BadRoom => 5,
+        Outcome::BadPlace => 6,
+        Outcome::BadSymbol => 7,
+        Outcome::Clash => 8,
+        Outcome::NoMessage => 9,
+        Outcome::Several(_) => 10,
+    }
+}
+
+// The second number.
+pub fn second(o: Outcome) -> u8
+    ensures { λ r. ⌜ r ≡ second o ⌝ }
+{
+    match o {
+        Outcome::Done => 0,
+        Outcome::BadCurve => 0,
+        Outcome::BadOrder => 0,
+        Outcome::BadLength => 0,
+        Outcome::BadValue(index) => index,
+        Outcome::BadRoom => 0,
+        Outcome::BadPlace => 0,
+        Outcome::BadSymbol => 0,
+        Outcome::Clash => 0,
+        Outcome::NoMessage => 0,
+        Outcome::Several(r) => r,
+    }
+}
+
+// Both numbers in one, as C gets them.
+pub fn packed(o: Outcome) -> u32
+    ensures { λ r. ⌜ r ≡ packed o ⌝ }
+{
+    (number(o) as u32) * 65536 + (second(o) as u32)
+}

@@ -1,0 +1,26 @@
+-- Tests and their values.
+-- Assumes nothing.
+use mathlib.Core.Path.{_≡_, refl}
+use mathlib.Core.Bool.{Bool, true, false, _&&_}
+use mathlib.Core.Logic.{_⊎_, inl, inr}
+use lib.Dec.{T}
+
+pub true-or-false : (b : Bool) → (b ≡ true) ⊎ (b ≡ false)
+true-or-false true = inl refl
+true-or-false false = inr refl
+
+pub T-true : (a : Bool) → T a → a ≡ true
+T-true true h = refl
+T-true false h = absurd h
+
+pub T-dec : (a : Bool) → Dec (T a)
+T-dec true = yes tt
+T-dec false = no λ h. h
+
+pub both : (a b : Bool) → T a → T b → T (a && b)
+both true b h k = k
+both false b h k = h
+
+pub parts : (a b : Bool) → T (a && b) → T a × T b
+parts true b h = (tt, h)
+parts false b h = absurd h

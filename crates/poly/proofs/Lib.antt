@@ -1,0 +1,6 @@
+pub mod Bools
+pub mod Lists
+pub mod Below
+pub mod Messages
+pub mod Writes
+pub mod Parts

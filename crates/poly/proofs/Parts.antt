@@ -1,0 +1,74 @@
+-- Indices of a flat list of rows, and a part of a list that is lent and comes back.
+-- Assumes nothing.
+use mathlib.Core.Path.{_≡_, refl, sym, ap, _∙_}
+use mathlib.Core.List.{List, _++_}
+use Prim.Native.Nat.{ℕ, zero, suc, _+_, _-_, _*_, _≤_, _<_}
+use native.Mathlib.Nat.{suc-mul, mul-le-mul-right}
+use native.Mathlib.Decide.{decLt}
+use native.Mathlib.Omega.{arith}
+use lib.ListN.{length, getD, take, drop, length-take, length-drop, List·getD-eq-default, List·getD-append, length-append}
+use lib.Seq.{getD-take, getD-drop, length-take-le, getD-append-add}
+use borrow.Rule.Slice.PartMut.{putMid, post-is}
+use Rattle.poly.specs.Ranges.{Below, part, put}
+
+-- row p ends before row i begins
+pub row-before : (p i stride : ℕ) → p < i → p * stride + stride ≤ i * stride
+row-before p i stride h = rw suc-mul at (mul-le-mul-right stride h)
+
+pub length-part : (l : List ℕ) (a e : ℕ) → a ≤ e → e ≤ length l → length (part l a e) ≡ e - a
+length-part l a e h k = length-take-le (e - a) (drop a l) (rw length-drop (omega arith))
+
+pub part-at : (l : List ℕ) (a e j : ℕ) → a + j < e → getD (part l a e) j 0 ≡ getD l (a + j) 0
+part-at l a e j h = getD-take (e - a) (drop a l) j 0 (omega arith) ∙ getD-drop a l j 0
+
+pub below-part : (n : ℕ) (l : List ℕ) (a e : ℕ) → Below n l → Below n (part l a e)
+below-part n l a e h i = go (decLt i (e - a))
+  where
+    go : Dec (i < e - a) → getD (part l a e) i 0 < n
+    go (yes y) = rw (getD-take (e - a) (drop a l) i 0 y, getD-drop a l i 0) (h (a + i))
+    go (no z) =
+        rw (List·getD-eq-default (part l a e) 0 {n = i} (rw length-take (omega arith)))
+        (rw (List·getD-eq-default l 0 {n = length l} (omega arith)) at (h (length l)))
+
+-- what the borrow checker has of a list whose part has come back
+pub put-is : (l : List ℕ) (a e : ℕ) (ys : List ℕ) → a ≤ e → putMid a (e - a) l ys ≡ put l a e ys
+unfolding put
+put-is l a e ys h = ap (λ (t : List ℕ). take a l ++ (ys ++ t)) (post-is a e l h)
+
+app-right : (x y : List ℕ) (n j : ℕ) → length x ≡ n → getD (x ++ y) (n + j) 0 ≡ getD y j 0
+app-right x y n j e = rw (← e) (getD-append-add x y j 0)
+
+-- A list whose part has come back.
+module _ (l : List ℕ) (a e : ℕ) (ys : List ℕ) (ae : a ≤ e) (el : e ≤ length l) (yl : length ys ≡ e - a) where
+  before-part : length (take a l) ≡ a
+  before-part = length-take-le a l (omega arith)
+
+  pub length-put : length (put l a e ys) ≡ length l
+  unfolding put
+  length-put = simp (length-append, length-drop) (omega (arith, before-part))
+
+  pub put-low : (j : ℕ) → j < a → getD (put l a e ys) j 0 ≡ getD l j 0
+  unfolding put
+  put-low j h = List·getD-append (take a l) _ 0 j (omega (arith, before-part)) ∙ getD-take a l j 0 h
+
+  pub put-in : (j : ℕ) → j < e - a → getD (put l a e ys) (a + j) 0 ≡ getD ys j 0
+  unfolding put
+  put-in j h = app-right (take a l) _ a j before-part ∙ List·getD-append ys _ 0 j (omega arith)
+
+  pub put-high : (j : ℕ) → e ≤ j → getD (put l a e ys) j 0 ≡ getD l j 0
+  unfolding put
+  put-high j h =
+      let one : j ≡ a + (e - a + (j - e)) = omega arith in
+      let two : e + (j - e) ≡ j = omega arith in
+      ap (λ (n : ℕ). getD (take a l ++ (ys ++ drop e l)) n 0) one
+      ∙ app-right (take a l) _ a _ before-part ∙ app-right ys _ (e - a) (j - e) yl ∙ getD-drop e l (j - e) 0 ∙ ap (λ (n : ℕ). getD l n 0) two
+
+  pub below-put : (n : ℕ) → Below n l → Below n ys → Below n (put l a e ys)
+  below-put n hl hy j = go (decLt j a) (decLt j e)
+    where
+      go : Dec (j < a) → Dec (j < e) → getD (put l a e ys) j 0 < n
+      go (yes h) d = rw (put-low j h) (hl j)
+      go (no h) (yes i) =
+          let at-j : a + (j - a) ≡ j = omega arith in
+          rw (← at-j, put-in (j - a) (omega arith)) (hy (j - a))
+      go (no h) (no i) = rw (put-high j (omega arith)) (hl j)

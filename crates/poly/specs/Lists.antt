@@ -1,0 +1,24 @@
+-- Lists as finite sets: lists with no element twice, and the number of elements that pass a test.
+use mathlib.Core.Bool.{Bool, true, false}
+use mathlib.Core.List.{List, [], _∷_, List·Memᴰ as Mem}
+use Prim.Native.Nat.{ℕ, zero, suc, _+_}
+
+abbrev pub oneIf : Bool → ℕ
+oneIf true = 1
+oneIf false = 0
+
+module _ {A : Type 0} where
+  -- no element stands twice
+  abbrev pub Nodup : List A → Type 0
+  Nodup [] = Unit {0}
+  Nodup (x ∷ xs) = (Mem x xs → ⊥) × Nodup xs
+
+  -- the number of elements that pass the test p
+  unfoldable pub count : (A → Bool) → List A → ℕ
+  count p [] = 0
+  count p (x ∷ xs) = oneIf (p x) + count p xs
+
+-- n - 1, .., 1, 0
+unfoldable pub below : ℕ → List ℕ
+below zero = []
+below (suc n) = n ∷ below n

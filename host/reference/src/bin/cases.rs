@@ -1,0 +1,518 @@
+//! Writes the case file and the text that a program which runs it must print.
+//! The module `case_record` says how both are laid out.
+
+use reference::case_record::{Case, Runner, SLICE_ROOM};
+use reference::code::MISSING;
+use reference::curve::Curve;
+use reference::file_pair;
+use reference::generator::Generator;
+use reference::sample::{self, Shape};
+use reference::session::PLACE_COUNT;
+use std::process::ExitCode;
+
+const SEED: u64 = 1;
+const BAD_CURVES: [u8; 6] = [0, 1, 3, 5, 8, 255];
+const BAD_ORDERS: [(u8, u8); 9] = [
+    (2, 8),
+    (2, 9),
+    (2, 63),
+    (2, 64),
+    (2, 255),
+    (4, 64),
+    (4, 65),
+    (4, 128),
+    (4, 255),
+];
+
+fn main() -> ExitCode {
+    let cases = all_cases();
+    let records: Vec<u8> = cases.iter().flat_map(Case::to_record).collect();
+    let mut runner = Runner::default();
+    let expected: String = cases.iter().map(|case| runner.run(case)).collect();
+    file_pair::write_to_arguments("cases CASE_FILE EXPECTED_FILE", &records, &expected)
+}
+
+fn all_cases() -> Vec<Case> {
+    let mut builder = Builder {
+        generator: Generator::with_seed(SEED),
+        cases: Vec::new(),
+    };
+    builder.before_any_opening();
+    builder.field_cases();
+    builder.bad_curves_and_orders();
+    for shape in Curve::BOTH.into_iter().flat_map(Shape::every_order) {
+        builder.encode_cases(shape);
+        builder.unencode_cases(shape);
+        builder.recover_cases(shape);
+    }
+    builder.session_runs();
+    builder.raw_sessions();
+    builder.cases
+}
+
+struct Builder {
+    generator: Generator,
+    cases: Vec<Case>,
+}
+
+/// Cases of the field.
+impl Builder {
+    fn field_cases(&mut self) {
+        for curve in Curve::BOTH {
+            let size = curve.field().size();
+            for a in 0..size {
+                (0..size).for_each(|b| self.field_pair(curve.q(), a, b));
+                self.field_case(b'i', curve.q(), a, 0);
+            }
+            self.bad_operands(curve.q(), size);
+        }
+        for q in BAD_CURVES {
+            for (a, b) in [(0, 1), (3, 2), (1, 255), (255, 255)] {
+                self.field_pair(q, a, b);
+                self.field_case(b'i', q, a, 0);
+            }
+        }
+    }
+
+    fn bad_operands(&mut self, q: u8, size: u8) {
+        let bad = [size, size + 1, 128, 254, 255];
+        for first in bad {
+            self.field_case(b'i', q, first, 0);
+            self.field_pair(q, first, 0);
+            self.field_pair(q, first, size - 1);
+            self.field_pair(q, 0, first);
+            self.field_pair(q, size - 1, first);
+            bad.iter()
+                .for_each(|&second| self.field_pair(q, first, second));
+        }
+    }
+
+    fn field_pair(&mut self, q: u8, a: u8, b: u8) {
+        self.field_case(b'+', q, a, b);
+        self.field_case(b'*', q, a, b);
+    }
+
+    fn field_case(&mut self, op: u8, q: u8, a: u8, b: u8) {
+        self.cases.push(Case {
+            op,
+            q,
+            a,
+            b,
+            ..Case::default()
+        });
+    }
+}
+
+/// Cases of encoding, unencoding and recovery.
+impl Builder {
+    /// The slice to be written holds rubbish before the call, so that a
+    /// refusal that writes is seen.
+    fn code_case(&mut self, op: u8, q: u8, m: u8, input: Vec<u8>, output_length: usize) {
+        let output = self.generator.bytes(output_length);
+        self.cases.push(Case {
+            op,
+            q,
+            m,
+            input,
+            output,
+            ..Case::default()
+        });
+    }
+
+    fn shaped_case(&mut self, op: u8, shape: Shape, input: Vec<u8>) {
+        let (_, output_length) = slice_lengths(op, shape);
+        self.code_case(op, shape.q(), shape.m, input, output_length);
+    }
+
+    fn bad_curves_and_orders(&mut self) {
+        let bad_curves = BAD_CURVES.into_iter();
+        let bad_curves = bad_curves.flat_map(|q| [(q, 3), (q, 37), (q, 255)]);
+        for (q, m) in bad_curves.chain(BAD_ORDERS) {
+            let n = if q == 2 { 8 } else { 64 };
+            for (op, input, output) in [(b'e', 32, n), (b'u', n, 32), (b'r', n, 32)] {
+                self.code_case(op, q, m, vec![1; input], output);
+                let rubbish = self.generator.bytes(input - 1);
+                self.code_case(op, q, m, rubbish, output + 1);
+            }
+        }
+    }
+
+    fn encode_cases(&mut self, shape: Shape) {
+        let mut first_only = vec![0; shape.k];
+        first_only[0] = 1;
+        let mut last_only = vec![0; shape.k];
+        last_only[shape.k - 1] = shape.field_size - 1;
+        let messages = [
+            sample::message(&mut self.generator, shape),
+            sample::message(&mut self.generator, shape),
+            vec![shape.field_size - 1; shape.k],
+            first_only,
+            last_only,
+        ];
+        for message in messages {
+            self.shaped_case(b'e', shape, message);
+        }
+        let good = sample::message(&mut self.generator, shape);
+        self.refused_inputs(b'e', shape, &good);
+    }
+
+    fn unencode_cases(&mut self, shape: Shape) {
+        let word = sample::codeword(&mut self.generator, shape);
+        let damaged = sample::damaged(&mut self.generator, shape, &word);
+        let arbitrary = sample::symbols(&mut self.generator, shape, shape.n);
+        self.code_case(b'u', shape.q(), shape.m, damaged.clone(), shape.k + 1);
+        let another = sample::codeword(&mut self.generator, shape);
+        for input in [word.clone(), another, damaged, arbitrary] {
+            self.shaped_case(b'u', shape, input);
+        }
+        self.refused_inputs(b'u', shape, &word);
+    }
+
+    fn recover_cases(&mut self, shape: Shape) {
+        let (n, k, m) = (shape.n, shape.k, usize::from(shape.m));
+        let arbitrary = self.generator.below(n + 1);
+        for known in [n, n - 1, k, k, m + 1, m, k - 1, 1, 0, arbitrary] {
+            let word = sample::codeword(&mut self.generator, shape);
+            let broken = sample::with_known(&mut self.generator, &word, known.min(n));
+            self.shaped_case(b'r', shape, broken);
+        }
+        for known in [n, m + 2, k, arbitrary] {
+            let word = sample::codeword(&mut self.generator, shape);
+            let broken = sample::with_known(&mut self.generator, &word, known.min(n));
+            let damaged = sample::damaged(&mut self.generator, shape, &broken);
+            self.shaped_case(b'r', shape, damaged);
+        }
+        self.recover_columns(shape);
+        self.code_case(b'r', shape.q(), shape.m, vec![MISSING; n], k + 1);
+        let word = sample::codeword(&mut self.generator, shape);
+        let broken = sample::with_known(&mut self.generator, &word, n - n / 4);
+        self.refused_inputs(b'r', shape, &broken);
+    }
+
+    /// Whole columns: m / q of them are never enough, one more always is.
+    fn recover_columns(&mut self, shape: Shape) {
+        let columns = usize::from(shape.m / shape.q());
+        let word = sample::codeword(&mut self.generator, shape);
+        for known in [columns, columns + 1] {
+            let broken = sample::with_known_columns(&mut self.generator, shape, &word, known);
+            self.shaped_case(b'r', shape, broken.clone());
+            let damaged = sample::damaged(&mut self.generator, shape, &broken);
+            self.shaped_case(b'r', shape, damaged);
+        }
+    }
+
+    /// Bad values, wrong lengths, and several faults at once.
+    fn refused_inputs(&mut self, op: u8, shape: Shape, good: &[u8]) {
+        let (input_length, output_length) = slice_lengths(op, shape);
+        for input in self.with_bad_values(op, shape, good) {
+            self.shaped_case(op, shape, input);
+        }
+        for length in self.wrong_lengths(input_length) {
+            let input = sample::symbols(&mut self.generator, shape, length);
+            self.shaped_case(op, shape, input);
+        }
+        for length in self.wrong_lengths(output_length) {
+            self.code_case(op, shape.q(), shape.m, good.to_vec(), length);
+        }
+        let (q, m) = (shape.q(), shape.m);
+        let [_, _, bad] = self.with_bad_values(op, shape, good);
+        self.code_case(op, q, m, bad.clone(), output_length - 1);
+        let longer = [bad.as_slice(), &[shape.field_size]].concat();
+        self.code_case(op, q, m, longer, output_length + 1);
+    }
+
+    /// The input with a bad value first, last, and at two arbitrary indexes.
+    fn with_bad_values(&mut self, op: u8, shape: Shape, good: &[u8]) -> [Vec<u8>; 3] {
+        let highest_bad = if op == b'r' { 254 } else { 255 };
+        let mut first = good.to_vec();
+        first[0] = shape.field_size;
+        let mut last = good.to_vec();
+        last[good.len() - 1] = highest_bad;
+        let mut two = good.to_vec();
+        for _ in 0..2 {
+            let index = self.generator.below(good.len());
+            two[index] = self.generator.byte_from(shape.field_size, highest_bad);
+        }
+        [first, last, two]
+    }
+
+    /// One length just beside the right one and one anywhere else.
+    fn wrong_lengths(&mut self, right: usize) -> [usize; 2] {
+        let beside = if self.generator.below(2) == 0 {
+            right - 1
+        } else {
+            right + 1
+        };
+        let farther = [0, SLICE_ROOM, self.generator.below(right)];
+        [beside, farther[self.generator.below(farther.len())]]
+    }
+}
+
+/// The right lengths of the input and of the slice to be written.
+fn slice_lengths(op: u8, shape: Shape) -> (usize, usize) {
+    if op == b'e' {
+        (shape.k, shape.n)
+    } else {
+        (shape.n, shape.k)
+    }
+}
+
+/// Cases of sessions.
+impl Builder {
+    fn open(&mut self, q: u8, m: u8) {
+        self.cases.push(Case {
+            op: b'o',
+            q,
+            m,
+            ..Case::default()
+        });
+    }
+
+    fn set(&mut self, q: u8, m: u8, places: &[u8]) {
+        self.cases.push(Case {
+            op: b's',
+            q,
+            m,
+            input: places.to_vec(),
+            ..Case::default()
+        });
+    }
+
+    fn arrive(&mut self, place: usize, symbol: u8) {
+        self.cases.push(Case {
+            op: b'a',
+            a: place as u8,
+            b: symbol,
+            ..Case::default()
+        });
+    }
+
+    fn ask(&mut self, length: usize) {
+        let output = self.generator.bytes(length);
+        self.cases.push(Case {
+            op: b'k',
+            output,
+            ..Case::default()
+        });
+    }
+
+    /// The session of a refused opening, which has q = 2 and m = 0.
+    fn before_any_opening(&mut self) {
+        self.ask(1);
+        self.ask(0);
+        self.arrive(8, 0);
+        self.arrive(7, 3);
+        self.ask(1);
+    }
+
+    fn session_runs(&mut self) {
+        for shape in Shape::every_order(Curve::Q_IS_2) {
+            for damaged in [false, true] {
+                self.session_run(shape, shape.n, damaged);
+            }
+        }
+        for shape in Shape::every_order(Curve::Q_IS_4) {
+            let (known, damaged) = match shape.m {
+                12 | 63 => (shape.n, false),
+                37 => (shape.n, true),
+                _ => (2, false),
+            };
+            self.session_run(shape, known, damaged);
+        }
+        self.session_run(Shape::of(Curve::Q_IS_4, 37), 50, false);
+        let bad_curves = BAD_CURVES.into_iter().flat_map(|q| [(q, 3), (q, 255)]);
+        for (q, m) in bad_curves.chain(BAD_ORDERS) {
+            self.open(q, m);
+            self.ask(1);
+            self.arrive(usize::from(m % 10), 2);
+        }
+    }
+
+    /// Opens a session and lets `known` symbols of a word arrive in an
+    /// arbitrary order, with other events in between.
+    fn session_run(&mut self, shape: Shape, known: usize, is_damaged: bool) {
+        let mut word = sample::codeword(&mut self.generator, shape);
+        if is_damaged {
+            word = sample::damaged(&mut self.generator, shape, &word);
+        }
+        self.open(shape.q(), shape.m);
+        self.ask(shape.k);
+        let places = self.generator.permutation(shape.n);
+        for (earlier, &place) in places.iter().take(known).enumerate() {
+            self.arrive(place, word[place]);
+            let arrived = earlier + 1;
+            if [shape.k, usize::from(shape.m), usize::from(shape.m) + 1].contains(&arrived) {
+                self.ask(shape.k);
+            }
+            if self.generator.below(3) > 0 {
+                self.other_event(shape, place, word[place]);
+            }
+        }
+        self.ask(shape.k);
+    }
+
+    /// Any event but a first arrival; `place` holds `symbol`.
+    fn other_event(&mut self, shape: Shape, place: usize, symbol: u8) {
+        let bad_place = usize::from(self.generator.byte_from(shape.n as u8, 255));
+        let bad_symbol = self.generator.byte_from(shape.field_size, 255);
+        let another = sample::another_symbol(&mut self.generator, shape, symbol);
+        let any_place = self.generator.below(shape.n);
+        match self.generator.below(11) {
+            0 => self.arrive(place, symbol),
+            1 => self.arrive(place, another),
+            2 => self.arrive(bad_place, symbol),
+            3 => self.arrive(shape.n, bad_symbol),
+            4 => self.arrive(place, bad_symbol),
+            5 => self.arrive(any_place, MISSING),
+            6 => self.arrive(bad_place, bad_symbol),
+            7 => {
+                let [beside, farther] = self.wrong_lengths(shape.k);
+                self.ask(beside);
+                self.ask(farther);
+            }
+            _ => self.ask(shape.k),
+        }
+    }
+
+    fn raw_sessions(&mut self) {
+        for shape in Shape::every_order(Curve::Q_IS_2) {
+            self.rubbish_behind_the_word(shape);
+        }
+        for curve in Curve::BOTH {
+            for m in [3, 7] {
+                self.whole_word_stored(Shape::of(curve, m));
+                self.bad_stored_values(Shape::of(curve, m));
+            }
+        }
+        self.whole_word_stored(Shape::of(Curve::Q_IS_4, 37));
+        self.bad_stored_values(Shape::of(Curve::Q_IS_4, 37));
+        let bad_curves = BAD_CURVES.into_iter().flat_map(|q| [(q, 3), (q, 255)]);
+        for (q, m) in bad_curves.chain(BAD_ORDERS) {
+            self.bad_stored_numbers(q, m);
+        }
+    }
+
+    /// A q = 2 session whose places from 8 on hold anything.
+    fn rubbish_behind_the_word(&mut self, shape: Shape) {
+        let word = sample::codeword(&mut self.generator, shape);
+        let known = self.generator.below(shape.n);
+        let mut places = sample::with_known(&mut self.generator, &word, known);
+        let missing = places.iter().position(|&symbol| symbol == MISSING);
+        let rubbish = self.generator.bytes(PLACE_COUNT - shape.n);
+        places.extend(rubbish);
+        self.set(shape.q(), shape.m, &places);
+        self.ask(shape.k);
+        self.ask(shape.k + 1);
+        self.arrive(shape.n, places[shape.n]);
+        self.arrive(63, 1);
+        let place = missing.unwrap_or(0);
+        self.arrive(place, word[place]);
+        self.ask(shape.k);
+    }
+
+    fn whole_word_stored(&mut self, shape: Shape) {
+        let word = sample::codeword(&mut self.generator, shape);
+        let mut places = word.clone();
+        places.resize(PLACE_COUNT, 254);
+        self.set(shape.q(), shape.m, &places);
+        self.ask(shape.k);
+        let place = self.generator.below(shape.n);
+        let another = sample::another_symbol(&mut self.generator, shape, word[place]);
+        self.arrive(place, word[place]);
+        self.arrive(place, another);
+        self.ask(shape.k);
+        places[place] = another;
+        self.set(shape.q(), shape.m, &places);
+        self.ask(shape.k);
+    }
+
+    fn bad_stored_values(&mut self, shape: Shape) {
+        let arbitrary = self.generator.below(shape.n);
+        for index in [0, arbitrary, shape.n - 1] {
+            let mut places = vec![MISSING; PLACE_COUNT];
+            places[shape.n - 1] = 254;
+            places[index] = shape.field_size;
+            self.set(shape.q(), shape.m, &places);
+            self.ask(shape.k);
+            self.ask(shape.k + 1);
+            self.arrive((index + 1) % shape.n, 0);
+            self.arrive(index, shape.field_size);
+            self.arrive(shape.n, 255);
+        }
+    }
+
+    /// Stored q and m that no opening accepts, also with bad stored values.
+    fn bad_stored_numbers(&mut self, q: u8, m: u8) {
+        self.set(q, m, &[MISSING; PLACE_COUNT]);
+        self.arrive(0, 0);
+        self.ask(1);
+        let rubbish = self.generator.bytes(PLACE_COUNT);
+        self.set(q, m, &rubbish);
+        self.arrive(255, 255);
+        self.ask(0);
+    }
+}
+
+#[cfg(test)]
+mod tests {
+    use super::*;
+    use reference::case_record::RECORD_LENGTH;
+    use std::collections::BTreeSet;
+
+    #[test]
+    fn the_cases_are_reproducible() {
+        assert_eq!(all_cases(), all_cases());
+    }
+
+    #[test]
+    fn there_are_about_6000_cases_and_each_fits_its_record() {
+        let cases = all_cases();
+        assert!((5500..=6700).contains(&cases.len()), "{}", cases.len());
+        for case in &cases {
+            let record: [u8; RECORD_LENGTH] = case.to_record();
+            assert_eq!(&Case::from_record(&record), case);
+            assert!(case.op != b's' || case.input.len() == PLACE_COUNT);
+        }
+    }
+
+    /// Each op gets every answer that it can give and no other, and every
+    /// order is encoded, unencoded and recovered.
+    #[test]
+    fn every_answer_of_every_op_and_every_order_come_up() {
+        let cases = all_cases();
+        let mut runner = Runner::default();
+        let lines: Vec<String> = cases.iter().map(|case| runner.run(case)).collect();
+        let answers: BTreeSet<String> = lines.iter().map(|line| op_and_number(line)).collect();
+        assert_eq!(answers, possible_answers());
+        let accepted: BTreeSet<(u8, u8, u8)> = cases
+            .iter()
+            .zip(&lines)
+            .filter(|(case, line)| b"eur".contains(&case.op) && op_and_number(line).ends_with(" 0"))
+            .map(|(case, _)| (case.op, case.q, case.m))
+            .collect();
+        assert_eq!(accepted.len(), 3 * (8 + 64));
+    }
+
+    fn op_and_number(line: &str) -> String {
+        line.split(' ').take(2).collect::<Vec<_>>().join(" ")
+    }
+
+    fn possible_answers() -> BTreeSet<String> {
+        let possible = [
+            ("+", vec![0, 1, 4]),
+            ("*", vec![0, 1, 4]),
+            ("i", vec![0, 1, 4]),
+            ("e", vec![0, 1, 2, 3, 4, 5]),
+            ("u", vec![0, 1, 2, 3, 4, 5, 9]),
+            ("r", vec![0, 1, 2, 3, 4, 5, 9, 10]),
+            ("o", vec![0, 1, 2]),
+            ("s", vec![0]),
+            ("a", vec![0, 1, 2, 4, 6, 7, 8]),
+            ("k", vec![0, 1, 2, 4, 5, 9, 10]),
+        ];
+        possible
+            .into_iter()
+            .flat_map(|(op, numbers)| numbers.into_iter().map(move |n| format!("{op} {n}")))
+            .collect()
+    }
+}

@@ -1,0 +1,301 @@
+//! One case for a program that runs the public entries, as a record of fixed
+//! size, and the line that such a program must print for it.
+//!
+//! A record is 160 bytes:
+//!
+//! | offset | content |
+//! |---|---|
+//! | 0 | the op |
+//! | 1 | q |
+//! | 2 | m |
+//! | 3 | the length of the input, 0 to 72 |
+//! | 4 | the length of the output slice, 0 to 72 |
+//! | 5 | the first operand, or the place of an arrival |
+//! | 6 | the second operand, or the symbol of an arrival |
+//! | 7 | zero |
+//! | 8 to 79 | the input, then zeros |
+//! | 80 to 151 | the output slice before the call, then zeros |
+//! | 152 to 159 | zeros |
+//!
+//! The ops are these letters:
+//!
+//! - `e`, `u`, `r`: encode, unencode and recover, from the input into the
+//!   output slice. The line ends with the slice after the call, two
+//!   hexadecimal digits a byte.
+//! - `+`, `*`, `i`: sum, product and inverse of the operands. The line ends
+//!   with the symbol.
+//! - `o`: opening with q and m; what it hands back becomes the current
+//!   session. Before the first one it is that of a refused opening.
+//! - `s`: the current session becomes q, m and the first 64 input bytes.
+//! - `a`: an arrival at the current session; what it hands back becomes the
+//!   current session. The lines of `o`, `s` and `a` end with the current
+//!   session's q and m and its places, two hexadecimal digits each.
+//! - `k`: the current session is asked with the output slice, and the line
+//!   ends as with `e`.
+//!
+//! A line starts with the op and the two numbers of the answer (0 and 0 for
+//! `s`), and its parts are parted by one space each.
+
+use crate::code;
+use crate::field;
+use crate::outcome::Outcome;
+use crate::session::{Session, PLACE_COUNT};
+
+pub const RECORD_LENGTH: usize = 160;
+
+/// The most bytes that the input or the output slice of a case can have.
+pub const SLICE_ROOM: usize = 72;
+
+const INPUT_OFFSET: usize = 8;
+const OUTPUT_OFFSET: usize = INPUT_OFFSET + SLICE_ROOM;
+
+/// What a record says. Slices longer than `SLICE_ROOM` are cut.
+#[derive(Clone, Debug, Default, PartialEq, Eq)]
+pub struct Case {
+    pub op: u8,
+    pub q: u8,
+    pub m: u8,
+    pub a: u8,
+    pub b: u8,
+    pub input: Vec<u8>,
+    pub output: Vec<u8>,
+}
+
+impl Case {
+    pub fn to_record(&self) -> [u8; RECORD_LENGTH] {
+        let input = &self.input[..self.input.len().min(SLICE_ROOM)];
+        let output = &self.output[..self.output.len().min(SLICE_ROOM)];
+        let mut record = [0; RECORD_LENGTH];
+        let (input_length, output_length) = (input.len() as u8, output.len() as u8);
+        let head = [self.op, self.q, self.m, input_length, output_length];
+        record[..5].copy_from_slice(&head);
+        record[5..7].copy_from_slice(&[self.a, self.b]);
+        record[INPUT_OFFSET..][..input.len()].copy_from_slice(input);
+        record[OUTPUT_OFFSET..][..output.len()].copy_from_slice(output);
+        record
+    }
+
+    pub fn from_record(record: &[u8; RECORD_LENGTH]) -> Case {
+        let input_length = usize::from(record[3]).min(SLICE_ROOM);
+        let output_length = usize::from(record[4]).min(SLICE_ROOM);
+        Case {
+            op: record[0],
+            q: record[1],
+            m: record[2],
+            a: record[5],
+            b: record[6],
+            input: record[INPUT_OFFSET..][..input_length].to_vec(),
+            output: record[OUTPUT_OFFSET..][..output_length].to_vec(),
+        }
+    }
+}
+
+/// Runs cases one after another and keeps the current session between them.
+pub struct Runner {
+    session: Session,
+}
+
+impl Default for Runner {
+    fn default() -> Runner {
+        Runner {
+            session: Session::OF_REFUSED_OPENING,
+        }
+    }
+}
+
+impl Runner {
+    /// The line of a case, with its line feed.
+    pub fn run(&mut self, case: &Case) -> String {
+        let (outcome, rest) = match case.op {
+            b'+' | b'*' | b'i' => field_answer(case),
+            b'o' | b's' | b'a' => self.session_answer(case),
+            _ => self.slice_answer(case),
+        };
+        let Outcome { number, second } = outcome;
+        format!("{} {number} {second} {rest}\n", char::from(case.op))
+    }
+
+    fn slice_answer(&self, case: &Case) -> (Outcome, String) {
+        let mut output = case.output.clone();
+        let outcome = match case.op {
+            b'e' => code::encode(case.q, case.m, &case.input, &mut output),
+            b'u' => code::unencode(case.q, case.m, &case.input, &mut output),
+            b'r' => code::recover(case.q, case.m, &case.input, &mut output),
+            _ => self.session.ask(&mut output),
+        };
+        (outcome, hexadecimal(&output))
+    }
+
+    fn session_answer(&mut self, case: &Case) -> (Outcome, String) {
+        let (session, outcome) = match case.op {
+            b'o' => Session::open(case.q, case.m),
+            b's' => (raw_session(case), Outcome::ACCEPTED),
+            _ => self.session.arrive(case.a, case.b),
+        };
+        self.session = session;
+        let places = hexadecimal(&session.places);
+        (outcome, format!("{} {} {places}", session.q, session.m))
+    }
+}
+
+fn field_answer(case: &Case) -> (Outcome, String) {
+    let (outcome, symbol) = match case.op {
+        b'+' => field::add(case.q, case.a, case.b),
+        b'*' => field::multiply(case.q, case.a, case.b),
+        _ => field::invert(case.q, case.a),
+    };
+    (outcome, symbol.to_string())
+}
+
+/// Places that the input doesn't reach are 0, as the record's bytes are there.
+fn raw_session(case: &Case) -> Session {
+    let mut places = [0; PLACE_COUNT];
+    for (place, &value) in places.iter_mut().zip(&case.input) {
+        *place = value;
+    }
+    Session {
+        q: case.q,
+        m: case.m,
+        places,
+    }
+}
+
+fn hexadecimal(bytes: &[u8]) -> String {
+    bytes.iter().map(|byte| format!("{byte:02x}")).collect()
+}
+
+#[cfg(test)]
+mod tests {
+    use super::*;
+
+    fn lines(cases: &[Case]) -> Vec<String> {
+        let mut runner = Runner::default();
+        cases.iter().map(|case| runner.run(case)).collect()
+    }
+
+    fn session_case(op: u8, a: u8, b: u8, output: &[u8]) -> Case {
+        Case {
+            op,
+            a,
+            b,
+            output: output.to_vec(),
+            ..Case::default()
+        }
+    }
+
+    #[test]
+    fn the_layout_of_a_record() {
+        let case = Case {
+            op: b'e',
+            q: 2,
+            m: 3,
+            a: 4,
+            b: 5,
+            input: vec![6, 7],
+            output: vec![8, 9, 10],
+        };
+        let mut expected = [0; 160];
+        expected[..10].copy_from_slice(&[101, 2, 3, 2, 3, 4, 5, 0, 6, 7]);
+        expected[80..83].copy_from_slice(&[8, 9, 10]);
+        assert_eq!(case.to_record(), expected);
+        assert_eq!(Case::from_record(&expected), case);
+    }
+
+    #[test]
+    fn full_slices_leave_the_end_zero() {
+        let case = Case {
+            input: vec![1; 72],
+            output: vec![2; 72],
+            ..Case::default()
+        };
+        let record = case.to_record();
+        assert_eq!(record[8..80], [1; 72]);
+        assert_eq!(record[80..152], [2; 72]);
+        assert_eq!(record[152..], [0; 8]);
+        assert_eq!(Case::from_record(&record), case);
+    }
+
+    #[test]
+    fn any_record_is_read_and_run() {
+        let case = Case::from_record(&[255; 160]);
+        assert_eq!((case.input.len(), case.output.len()), (72, 72));
+        assert_eq!(lines(&[case]).len(), 1);
+    }
+
+    #[test]
+    fn lines_of_code_cases() {
+        let mut case = Case {
+            op: b'e',
+            q: 2,
+            m: 3,
+            input: vec![1, 2, 3],
+            output: vec![255; 8],
+            ..Case::default()
+        };
+        assert_eq!(lines(&[case.clone()]), ["e 0 0 0102020103000102\n"]);
+        case.input[2] = 4;
+        assert_eq!(lines(&[case.clone()]), ["e 4 2 ffffffffffffffff\n"]);
+        case.q = 1;
+        case.output.clear();
+        assert_eq!(lines(&[case.clone()]), ["e 1 0 \n"]);
+        case.op = b'r';
+        case.q = 2;
+        case.input = vec![255; 8];
+        case.output = vec![16; 3];
+        assert_eq!(lines(&[case.clone()]), ["r 10 3 101010\n"]);
+        case.op = b'u';
+        assert_eq!(lines(&[case]), ["u 4 0 101010\n"]);
+    }
+
+    #[test]
+    fn lines_of_field_cases() {
+        let line = |op, q, a, b| {
+            let case = Case {
+                op,
+                q,
+                a,
+                b,
+                ..Case::default()
+            };
+            lines(&[case])[0].clone()
+        };
+        assert_eq!(line(b'*', 4, 9, 9), "* 0 0 13\n");
+        assert_eq!(line(b'+', 4, 9, 16), "+ 4 1 0\n");
+        assert_eq!(line(b'i', 4, 2, 0), "i 0 0 9\n");
+        assert_eq!(line(b'i', 3, 2, 0), "i 1 0 0\n");
+    }
+
+    #[test]
+    fn lines_before_any_opening() {
+        let missing = "ff".repeat(63);
+        let cases = [
+            session_case(b'k', 0, 0, &[9]),
+            session_case(b'a', 0, 3, &[]),
+            session_case(b'k', 0, 0, &[9]),
+        ];
+        let arrived = format!("a 0 0 2 0 03{missing}\n");
+        assert_eq!(lines(&cases), ["k 10 1 09\n", &arrived, "k 0 0 03\n"]);
+    }
+
+    #[test]
+    fn lines_of_sessions() {
+        let open = Case {
+            op: b'o',
+            q: 4,
+            m: 64,
+            ..Case::default()
+        };
+        let raw = Case {
+            op: b's',
+            q: 3,
+            m: 9,
+            input: vec![1; 64],
+            ..Case::default()
+        };
+        let cases = [open, raw, session_case(b'a', 0, 0, &[])];
+        let opened = format!("o 2 0 2 0 {}\n", "ff".repeat(64));
+        let set = format!("s 0 0 3 9 {}\n", "01".repeat(64));
+        let arrived = format!("a 1 0 3 9 {}\n", "01".repeat(64));
+        assert_eq!(lines(&cases), [opened, set, arrived]);
+    }
+}

@@ -1,0 +1,244 @@
+//! The fields of 4 and of 16 elements.
+//!
+//! A symbol's bits are the coefficients of a polynomial in z, lowest first,
+//! and products are polynomial products reduced by z^2 = z + 1 or z^4 = z + 1.
+
+use crate::checks;
+use crate::outcome::Outcome;
+
+/// A field of 2 to the power `degree` elements. Its operations are for symbols
+/// below that number; the public entries below refuse others.
+#[derive(Clone, Copy, Debug, PartialEq, Eq)]
+pub struct Field {
+    degree: u32,
+    /// The bits of the polynomial in z that equals 0; its degree is `degree`.
+    modulus: u16,
+}
+
+impl Field {
+    /// Q = 4, with z^2 + z + 1 = 0.
+    pub const OF_4: Field = Field {
+        degree: 2,
+        modulus: 0b111,
+    };
+
+    /// Q = 16, with z^4 + z + 1 = 0.
+    pub const OF_16: Field = Field {
+        degree: 4,
+        modulus: 0b10011,
+    };
+
+    /// The field of the curve that q names.
+    pub fn of_curve(q: u8) -> Option<Field> {
+        match q {
+            2 => Some(Field::OF_4),
+            4 => Some(Field::OF_16),
+            _ => None,
+        }
+    }
+
+    /// Q, the number of elements.
+    pub fn size(self) -> u8 {
+        1 << self.degree
+    }
+
+    pub fn sum(self, a: u8, b: u8) -> u8 {
+        a ^ b
+    }
+
+    pub fn product(self, a: u8, b: u8) -> u8 {
+        self.remainder(self.polynomial_product(a, b))
+    }
+
+    /// The `exponent`-fold product of `base`; 1 if `exponent` is 0.
+    pub fn power(self, base: u8, exponent: usize) -> u8 {
+        (0..exponent).fold(1, |product, _| self.product(product, base))
+    }
+
+    /// Found by trying every element. No product with 0 is 1, and the
+    /// paper gives 0 as the inverse of 0.
+    pub fn inverse(self, a: u8) -> u8 {
+        (1..self.size())
+            .find(|&b| self.product(a, b) == 1)
+            .unwrap_or(0)
+    }
+
+    /// The sum of a * z^bit over the bits of b, not yet reduced.
+    fn polynomial_product(self, a: u8, b: u8) -> u16 {
+        let mut product = 0;
+        for bit in 0..self.degree {
+            if b >> bit & 1 == 1 {
+                product ^= u16::from(a) << bit;
+            }
+        }
+        product
+    }
+
+    /// Long division by the modulus, from the highest power of z that the
+    /// product of two symbols can have.
+    fn remainder(self, polynomial: u16) -> u8 {
+        let mut rest = polynomial;
+        for bit in (self.degree..=2 * self.degree - 2).rev() {
+            if rest >> bit & 1 == 1 {
+                rest ^= self.modulus << (bit - self.degree);
+            }
+        }
+        rest as u8
+    }
+}
+
+/// The sum of two symbols; the symbol is 0 if the call is refused.
+pub fn add(q: u8, a: u8, b: u8) -> (Outcome, u8) {
+    answer(field_for(q, &[a, b]).map(|field| field.sum(a, b)))
+}
+
+/// The product of two symbols; the symbol is 0 if the call is refused.
+pub fn multiply(q: u8, a: u8, b: u8) -> (Outcome, u8) {
+    answer(field_for(q, &[a, b]).map(|field| field.product(a, b)))
+}
+
+/// The inverse of a symbol; the symbol is 0 if the call is refused.
+pub fn invert(q: u8, a: u8) -> (Outcome, u8) {
+    answer(field_for(q, &[a]).map(|field| field.inverse(a)))
+}
+
+fn field_for(q: u8, operands: &[u8]) -> Result<Field, Outcome> {
+    let field = Field::of_curve(q).ok_or(Outcome::UNKNOWN_CURVE)?;
+    checks::symbols(field, operands)?;
+    Ok(field)
+}
+
+fn answer(result: Result<u8, Outcome>) -> (Outcome, u8) {
+    match result {
+        Ok(symbol) => (Outcome::ACCEPTED, symbol),
+        Err(refusal) => (refusal, 0),
+    }
+}
+
+#[cfg(test)]
+mod tests {
+    use super::*;
+
+    const FIELDS: [Field; 2] = [Field::OF_4, Field::OF_16];
+
+    fn accepted(symbol: u8) -> (Outcome, u8) {
+        (Outcome::ACCEPTED, symbol)
+    }
+
+    #[test]
+    fn value_a_products_of_4_elements() {
+        assert_eq!(multiply(2, 2, 2), accepted(3));
+        assert_eq!(multiply(2, 2, 3), accepted(1));
+        assert_eq!(multiply(2, 3, 3), accepted(2));
+    }
+
+    #[test]
+    fn value_b_products_and_inverse_of_16_elements() {
+        assert_eq!(multiply(4, 2, 8), accepted(3));
+        assert_eq!(multiply(4, 9, 9), accepted(13));
+        assert_eq!(invert(4, 2), accepted(9));
+    }
+
+    #[test]
+    fn sums_are_bitwise_exclusive_or() {
+        for (q, size) in [(2, 4), (4, 16)] {
+            for a in 0..size {
+                for b in 0..size {
+                    assert_eq!(add(q, a, b), accepted(a ^ b));
+                }
+            }
+        }
+    }
+
+    #[test]
+    fn the_inverse_of_0_is_given_as_0() {
+        assert_eq!(invert(2, 0), accepted(0));
+        assert_eq!(invert(4, 0), accepted(0));
+    }
+
+    #[test]
+    fn each_other_symbol_times_its_inverse_is_1() {
+        for (q, size) in [(2, 4), (4, 16)] {
+            for a in 1..size {
+                let (outcome, inverse) = invert(q, a);
+                assert_eq!(outcome, Outcome::ACCEPTED);
+                assert_eq!(multiply(q, a, inverse), accepted(1));
+            }
+        }
+    }
+
+    #[test]
+    fn products_obey_the_laws_of_a_field() {
+        for field in FIELDS {
+            let size = field.size();
+            for a in 0..size {
+                assert_eq!(field.product(a, 1), a);
+                assert_eq!(field.product(a, 0), 0);
+                for b in 0..size {
+                    assert!(field.product(a, b) < size);
+                    assert_eq!(field.product(a, b), field.product(b, a));
+                    for c in 0..size {
+                        distributes_and_associates(field, a, b, c);
+                    }
+                }
+            }
+        }
+    }
+
+    fn distributes_and_associates(field: Field, a: u8, b: u8, c: u8) {
+        let (ab, bc, ac) = (
+            field.product(a, b),
+            field.product(b, c),
+            field.product(a, c),
+        );
+        assert_eq!(field.product(ab, c), field.product(a, bc));
+        assert_eq!(field.product(a, field.sum(b, c)), field.sum(ab, ac));
+    }
+
+    #[test]
+    fn z_obeys_the_rule_of_its_field() {
+        assert_eq!(Field::OF_4.power(2, 2), 2 ^ 1);
+        assert_eq!(Field::OF_16.power(2, 4), 2 ^ 1);
+    }
+
+    #[test]
+    fn every_element_is_a_root_of_x_to_the_q_minus_x() {
+        for field in FIELDS {
+            for a in 0..field.size() {
+                assert_eq!(field.power(a, usize::from(field.size())), a);
+                assert_eq!(field.power(a, 0), 1);
+            }
+        }
+    }
+
+    #[test]
+    fn unknown_curves_are_refused_before_operands() {
+        let refused = (Outcome::UNKNOWN_CURVE, 0);
+        for q in (0..=255).filter(|q| ![2, 4].contains(q)) {
+            for a in [0, 1, 3, 255] {
+                assert_eq!(add(q, a, 1), refused);
+                assert_eq!(multiply(q, 1, a), refused);
+                assert_eq!(invert(q, a), refused);
+            }
+        }
+    }
+
+    #[test]
+    fn operands_too_high_are_refused_by_the_lowest_index() {
+        for (q, size) in [(2, 4), (4, 16)] {
+            for bad in size..=255 {
+                for other in 0..=255 {
+                    let first = (Outcome::value_too_high(0), 0);
+                    assert_eq!(add(q, bad, other), first);
+                    assert_eq!(multiply(q, bad, other), first);
+                }
+                for good in 0..size {
+                    let second = (Outcome::value_too_high(1), 0);
+                    assert_eq!(add(q, good, bad), second);
+                    assert_eq!(multiply(q, good, bad), second);
+                }
+                assert_eq!(invert(q, bad), (Outcome::value_too_high(0), 0));
+            }
+        }
+    }
+}

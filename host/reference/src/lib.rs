@@ -1,0 +1,21 @@
+//! The second implementation of the Hermitian block code of paper 01.
+//!
+//! It is written from paper 01 alone, to be compared with the proved library.
+//! Every method here is the plainest one: field products by shifting bits,
+//! encoding by evaluating each term at each point, and unencoding and recovery
+//! by Gauss elimination on one equation for each known symbol.
+
+#![forbid(unsafe_code)]
+
+pub mod blocks;
+pub mod case_record;
+mod checks;
+pub mod code;
+pub mod curve;
+pub mod field;
+pub mod file_pair;
+pub mod generator;
+mod linear;
+pub mod outcome;
+pub mod sample;
+pub mod session;

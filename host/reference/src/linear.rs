@@ -1,0 +1,154 @@
+//! Gauss elimination over a field.
+
+use crate::field::Field;
+
+/// The sum of each coefficient times its unknown is `value`.
+#[derive(Clone, Debug)]
+pub struct Equation {
+    pub coefficients: Vec<u8>,
+    pub value: u8,
+}
+
+/// How many solutions a system has.
+#[derive(Clone, Debug, PartialEq, Eq)]
+pub enum Solutions {
+    None,
+    One(Vec<u8>),
+    /// Q to the power `free_unknowns` of them, and `free_unknowns` isn't 0.
+    Several {
+        free_unknowns: usize,
+    },
+}
+
+/// Each equation must have `unknowns` coefficients.
+pub fn solve(field: Field, mut equations: Vec<Equation>, unknowns: usize) -> Solutions {
+    let rank = reduce(field, &mut equations, unknowns);
+    // From the rank on every coefficient is 0, so a value must be 0 too.
+    if equations.iter().skip(rank).any(|rest| rest.value != 0) {
+        return Solutions::None;
+    }
+    if rank < unknowns {
+        return Solutions::Several {
+            free_unknowns: unknowns - rank,
+        };
+    }
+    // At full rank equation number c says that unknown c is its value.
+    let values = equations.iter().take(rank).map(|equation| equation.value);
+    Solutions::One(values.collect())
+}
+
+/// Brings the equations to reduced row echelon form and gives the rank.
+fn reduce(field: Field, equations: &mut [Equation], unknowns: usize) -> usize {
+    let mut rank = 0;
+    for column in 0..unknowns {
+        let pivot = (rank..equations.len()).find(|&row| equations[row].coefficients[column] != 0);
+        if let Some(pivot) = pivot {
+            equations.swap(rank, pivot);
+            clear_column(field, equations, rank, column);
+            rank += 1;
+        }
+    }
+    rank
+}
+
+/// Makes the pivot's coefficient 1 and that of every other equation 0.
+fn clear_column(field: Field, equations: &mut [Equation], pivot_row: usize, column: usize) {
+    let lead = equations[pivot_row].coefficients[column];
+    let pivot = scaled(field, &equations[pivot_row], field.inverse(lead));
+    for (row, equation) in equations.iter_mut().enumerate() {
+        if row == pivot_row {
+            *equation = pivot.clone();
+        } else {
+            // Minus is plus in characteristic 2.
+            let factor = equation.coefficients[column];
+            add_to(field, equation, &scaled(field, &pivot, factor));
+        }
+    }
+}
+
+fn scaled(field: Field, equation: &Equation, factor: u8) -> Equation {
+    let coefficients = equation.coefficients.iter();
+    Equation {
+        coefficients: coefficients.map(|&c| field.product(c, factor)).collect(),
+        value: field.product(equation.value, factor),
+    }
+}
+
+fn add_to(field: Field, equation: &mut Equation, other: &Equation) {
+    for (left, &right) in equation.coefficients.iter_mut().zip(&other.coefficients) {
+        *left = field.sum(*left, right);
+    }
+    equation.value = field.sum(equation.value, other.value);
+}
+
+#[cfg(test)]
+mod tests {
+    use super::*;
+
+    fn equation(coefficients: &[u8], value: u8) -> Equation {
+        Equation {
+            coefficients: coefficients.to_vec(),
+            value,
+        }
+    }
+
+    #[test]
+    fn no_equations_leave_every_unknown_free() {
+        let several = Solutions::Several { free_unknowns: 3 };
+        assert_eq!(solve(Field::OF_4, vec![], 3), several);
+        assert_eq!(solve(Field::OF_4, vec![], 0), Solutions::One(vec![]));
+    }
+
+    #[test]
+    fn a_pivot_may_stand_in_a_later_row() {
+        let system = vec![equation(&[0, 2], 3), equation(&[3, 1], 0)];
+        // 2 * b = 3 gives b = 2; then 3 * a = 2 gives a = 3.
+        assert_eq!(solve(Field::OF_4, system, 2), Solutions::One(vec![3, 2]));
+    }
+
+    #[test]
+    fn a_contradiction_is_found_at_any_rank() {
+        let system = vec![equation(&[1, 2], 1), equation(&[2, 3], 3)];
+        assert_eq!(solve(Field::OF_4, system, 2), Solutions::None);
+    }
+
+    #[test]
+    fn repeated_equations_add_nothing() {
+        let system = vec![equation(&[1, 2], 1), equation(&[2, 3], 2)];
+        let several = Solutions::Several { free_unknowns: 1 };
+        assert_eq!(solve(Field::OF_4, system, 2), several);
+    }
+
+    /// Every system of two equations in two unknowns over the field of 4.
+    #[test]
+    fn elimination_agrees_with_trying_every_value() {
+        let field = Field::OF_4;
+        for bits in 0..1 << 12 {
+            let part = |index: u32| (bits >> (2 * index) & 3) as u8;
+            let system = vec![
+                equation(&[part(0), part(1)], part(2)),
+                equation(&[part(3), part(4)], part(5)),
+            ];
+            assert_eq!(solve(field, system.clone(), 2), by_trial(field, &system));
+        }
+    }
+
+    fn by_trial(field: Field, system: &[Equation]) -> Solutions {
+        let candidates = (0..16).map(|bits| vec![bits >> 2, bits & 3]);
+        let solves = |values: &Vec<u8>| {
+            system.iter().all(|equation| {
+                let products = equation.coefficients.iter().zip(values);
+                let sum = products.fold(0, |sum, (&c, &v)| field.sum(sum, field.product(c, v)));
+                sum == equation.value
+            })
+        };
+        let found: Vec<Vec<u8>> = candidates.filter(solves).collect();
+        match found.len() {
+            0 => Solutions::None,
+            1 => Solutions::One(found[0].clone()),
+            4 => Solutions::Several { free_unknowns: 1 },
+            16 => Solutions::Several { free_unknowns: 2 },
+            other => panic!("{other} solutions are not a power of 4"),
+        }
+    }
+}

@@ -1,0 +1,99 @@
+//! The two numbers that every call gives.
+
+/// 0 and 0, or a refusal's number and its second number.
+#[derive(Clone, Copy, Debug, PartialEq, Eq)]
+pub struct Outcome {
+    pub number: u8,
+    pub second: u8,
+}
+
+impl Outcome {
+    pub const ACCEPTED: Outcome = Outcome::plain(0);
+    pub const UNKNOWN_CURVE: Outcome = Outcome::plain(1);
+    pub const ORDER_TOO_HIGH: Outcome = Outcome::plain(2);
+    pub const WRONG_INPUT_LENGTH: Outcome = Outcome::plain(3);
+    pub const WRONG_OUTPUT_LENGTH: Outcome = Outcome::plain(5);
+    pub const PLACE_TOO_HIGH: Outcome = Outcome::plain(6);
+    pub const SYMBOL_TOO_HIGH: Outcome = Outcome::plain(7);
+    pub const PLACE_HOLDS_ANOTHER: Outcome = Outcome::plain(8);
+    pub const NO_MESSAGE_FITS: Outcome = Outcome::plain(9);
+
+    const fn plain(number: u8) -> Outcome {
+        Outcome { number, second: 0 }
+    }
+
+    /// Refusal 4, with the lowest index of a value that is Q or more.
+    pub const fn value_too_high(index: u8) -> Outcome {
+        Outcome {
+            number: 4,
+            second: index,
+        }
+    }
+
+    /// Refusal 10, with r where exactly Q to the power r messages fit.
+    pub const fn several_messages_fit(r: u8) -> Outcome {
+        Outcome {
+            number: 10,
+            second: r,
+        }
+    }
+
+    /// The one number that a call returns from C.
+    pub fn packed(self) -> u32 {
+        u32::from(self.number) * 65536 + u32::from(self.second)
+    }
+}
+
+impl From<Result<(), Outcome>> for Outcome {
+    fn from(result: Result<(), Outcome>) -> Outcome {
+        match result {
+            Ok(()) => Outcome::ACCEPTED,
+            Err(refusal) => refusal,
+        }
+    }
+}
+
+#[cfg(test)]
+mod tests {
+    use super::*;
+
+    #[test]
+    fn refusals_have_the_numbers_of_the_paper() {
+        let numbers = [
+            Outcome::ACCEPTED,
+            Outcome::UNKNOWN_CURVE,
+            Outcome::ORDER_TOO_HIGH,
+            Outcome::WRONG_INPUT_LENGTH,
+            Outcome::value_too_high(0),
+            Outcome::WRONG_OUTPUT_LENGTH,
+            Outcome::PLACE_TOO_HIGH,
+            Outcome::SYMBOL_TOO_HIGH,
+            Outcome::PLACE_HOLDS_ANOTHER,
+            Outcome::NO_MESSAGE_FITS,
+            Outcome::several_messages_fit(0),
+        ];
+        for (expected, outcome) in (0u8..).zip(numbers) {
+            assert_eq!((outcome.number, outcome.second), (expected, 0));
+        }
+    }
+
+    #[test]
+    fn packed_is_the_number_times_65536_plus_the_second() {
+        assert_eq!(Outcome::ACCEPTED.packed(), 0);
+        assert_eq!(Outcome::UNKNOWN_CURVE.packed(), 65_536);
+        assert_eq!(Outcome::value_too_high(63).packed(), 262_207);
+        assert_eq!(Outcome::several_messages_fit(32).packed(), 655_392);
+        let largest = Outcome {
+            number: 255,
+            second: 255,
+        };
+        assert_eq!(largest.packed(), 16_711_935);
+    }
+
+    #[test]
+    fn a_result_turns_into_its_outcome() {
+        assert_eq!(Outcome::from(Ok(())), Outcome::ACCEPTED);
+        let refusal = Outcome::several_messages_fit(3);
+        assert_eq!(Outcome::from(Err(refusal)), refusal);
+    }
+}

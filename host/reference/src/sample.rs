@@ -1,0 +1,178 @@
+//! Arbitrary messages and words to try the code on.
+
+use crate::code::{self, MISSING};
+use crate::curve::Curve;
+use crate::generator::Generator;
+
+/// A curve and an order below its n, with the numbers that follow from them.
+#[derive(Clone, Copy, Debug)]
+pub struct Shape {
+    pub curve: Curve,
+    pub m: u8,
+    pub n: usize,
+    pub k: usize,
+    pub field_size: u8,
+}
+
+impl Shape {
+    pub fn of(curve: Curve, m: u8) -> Shape {
+        Shape {
+            curve,
+            m,
+            n: curve.point_count(),
+            k: curve.terms(m).len(),
+            field_size: curve.field().size(),
+        }
+    }
+
+    /// The shape of every accepted order of a curve.
+    pub fn every_order(curve: Curve) -> impl Iterator<Item = Shape> {
+        let orders = (0..=u8::MAX).take(curve.point_count());
+        orders.map(move |m| Shape::of(curve, m))
+    }
+
+    pub fn q(self) -> u8 {
+        self.curve.q()
+    }
+
+    /// Any order below n gets its word, so the outcome needs no look.
+    pub fn word_of(self, message: &[u8]) -> Vec<u8> {
+        let mut word = vec![0; self.n];
+        code::encode(self.q(), self.m, message, &mut word);
+        word
+    }
+}
+
+pub fn symbols(generator: &mut Generator, shape: Shape, length: usize) -> Vec<u8> {
+    let highest = shape.field_size - 1;
+    (0..length)
+        .map(|_| generator.byte_from(0, highest))
+        .collect()
+}
+
+pub fn message(generator: &mut Generator, shape: Shape) -> Vec<u8> {
+    symbols(generator, shape, shape.k)
+}
+
+pub fn codeword(generator: &mut Generator, shape: Shape) -> Vec<u8> {
+    let message = message(generator, shape);
+    shape.word_of(&message)
+}
+
+/// The word with `known` symbols at arbitrary places and the others missing.
+pub fn with_known(generator: &mut Generator, word: &[u8], known: usize) -> Vec<u8> {
+    let mut broken = word.to_vec();
+    for place in generator.permutation(word.len()).into_iter().skip(known) {
+        broken[place] = MISSING;
+    }
+    broken
+}
+
+/// The word with `known` whole columns and the others missing. A product of
+/// x - a over m / q columns or fewer is 0 on all that is known, so that many
+/// columns leave several messages.
+pub fn with_known_columns(
+    generator: &mut Generator,
+    shape: Shape,
+    word: &[u8],
+    known: usize,
+) -> Vec<u8> {
+    let mut broken = word.to_vec();
+    let columns = generator.permutation(usize::from(shape.field_size));
+    let q = usize::from(shape.q());
+    for column in columns.into_iter().skip(known) {
+        let places = broken.iter_mut().skip(q * column).take(q);
+        places.for_each(|symbol| *symbol = MISSING);
+    }
+    broken
+}
+
+/// The word with another symbol at one place that holds a symbol, if any does.
+pub fn damaged(generator: &mut Generator, shape: Shape, word: &[u8]) -> Vec<u8> {
+    let mut damaged = word.to_vec();
+    let mut known: Vec<&mut u8> = damaged.iter_mut().filter(|s| **s != MISSING).collect();
+    let choice = generator.below(known.len());
+    if let Some(symbol) = known.get_mut(choice) {
+        **symbol = another_symbol(generator, shape, **symbol);
+    }
+    damaged
+}
+
+/// A symbol of the field other than the given one.
+pub fn another_symbol(generator: &mut Generator, shape: Shape, symbol: u8) -> u8 {
+    // Adding a nonzero symbol always gives another one.
+    shape
+        .curve
+        .field()
+        .sum(symbol, generator.byte_from(1, shape.field_size - 1))
+}
+
+/// Every message of a small shape, each with its word.
+pub fn all_messages_with_words(shape: Shape) -> Vec<(Vec<u8>, Vec<u8>)> {
+    let mut messages = vec![vec![]];
+    for _ in 0..shape.k {
+        messages = messages
+            .iter()
+            .flat_map(|start: &Vec<u8>| {
+                (0..shape.field_size).map(move |symbol| [start.as_slice(), &[symbol]].concat())
+            })
+            .collect();
+    }
+    let with_word = |message: Vec<u8>| {
+        let word = shape.word_of(&message);
+        (message, word)
+    };
+    messages.into_iter().map(with_word).collect()
+}
+
+#[cfg(test)]
+mod tests {
+    use super::*;
+
+    fn known_count(word: &[u8]) -> usize {
+        word.iter().filter(|&&symbol| symbol != MISSING).count()
+    }
+
+    #[test]
+    fn broken_words_keep_the_known_symbols() {
+        let mut generator = Generator::with_seed(41);
+        for curve in Curve::BOTH {
+            for shape in Shape::every_order(curve) {
+                let word = codeword(&mut generator, shape);
+                let known = generator.below(shape.n + 1);
+                let broken = with_known(&mut generator, &word, known);
+                assert_eq!(known_count(&broken), known);
+                let agrees = |(b, w): (&u8, &u8)| b == w || *b == MISSING;
+                assert!(broken.iter().zip(&word).all(agrees));
+                let columns = with_known_columns(&mut generator, shape, &word, 2);
+                assert_eq!(known_count(&columns), 2 * usize::from(shape.q()));
+                assert!(columns.iter().zip(&word).all(agrees));
+            }
+        }
+    }
+
+    #[test]
+    fn damage_changes_exactly_one_known_symbol() {
+        let mut generator = Generator::with_seed(42);
+        let shape = Shape::of(Curve::Q_IS_4, 37);
+        for known in 0..=64 {
+            let word = codeword(&mut generator, shape);
+            let broken = with_known(&mut generator, &word, known);
+            let other = damaged(&mut generator, shape, &broken);
+            let changed = broken.iter().zip(&other).filter(|(b, o)| b != o).count();
+            assert_eq!(changed, known.min(1));
+            assert_eq!(known_count(&other), known);
+            assert!(other.iter().all(|&s| s < 16 || s == MISSING));
+        }
+    }
+
+    #[test]
+    fn all_messages_are_there_once() {
+        for shape in Shape::every_order(Curve::Q_IS_2).take(5) {
+            let mut all = all_messages_with_words(shape);
+            assert_eq!(all.len(), 4usize.pow(shape.k as u32));
+            all.dedup_by(|a, b| a.0 == b.0);
+            assert_eq!(all.len(), 4usize.pow(shape.k as u32));
+        }
+    }
+}

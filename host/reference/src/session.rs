@@ -1,0 +1,328 @@
+//! A receiving session: symbols arrive one by one and the message may be
+//! asked for at any time.
+
+use crate::checks;
+use crate::code::{self, MISSING};
+use crate::curve::Curve;
+use crate::outcome::Outcome;
+
+/// The places that a session holds, for either curve.
+pub const PLACE_COUNT: usize = 64;
+
+/// Every value is allowed, also one that no opening or arrival hands back.
+#[derive(Clone, Copy, Debug, PartialEq, Eq)]
+pub struct Session {
+    pub q: u8,
+    pub m: u8,
+    pub places: [u8; PLACE_COUNT],
+}
+
+impl Session {
+    /// What a refused opening hands back.
+    pub const OF_REFUSED_OPENING: Session = Session::with_all_missing(2, 0);
+
+    const fn with_all_missing(q: u8, m: u8) -> Session {
+        Session {
+            q,
+            m,
+            places: [MISSING; PLACE_COUNT],
+        }
+    }
+
+    pub fn open(q: u8, m: u8) -> (Session, Outcome) {
+        match checks::curve_and_order(q, m) {
+            Ok(_) => (Session::with_all_missing(q, m), Outcome::ACCEPTED),
+            Err(refusal) => (Session::OF_REFUSED_OPENING, refusal),
+        }
+    }
+
+    /// Hands the session back with the symbol stored, or as it came.
+    pub fn arrive(self, place: u8, symbol: u8) -> (Session, Outcome) {
+        match self.check_arrival(place, symbol) {
+            Ok(()) => (self.with_stored(place, symbol), Outcome::ACCEPTED),
+            Err(refusal) => (self, refusal),
+        }
+    }
+
+    /// Recovery from the stored q, m and first n places.
+    pub fn ask(&self, message: &mut [u8]) -> Outcome {
+        match Curve::named(self.q) {
+            Some(curve) => code::recover(self.q, self.m, self.used_places(curve), message),
+            None => Outcome::UNKNOWN_CURVE,
+        }
+    }
+
+    fn check_arrival(&self, place: u8, symbol: u8) -> Result<(), Outcome> {
+        let curve = checks::curve_and_order(self.q, self.m)?;
+        let used = self.used_places(curve);
+        checks::symbols_or_missing(curve.field(), used)?;
+        let held = *used
+            .get(usize::from(place))
+            .ok_or(Outcome::PLACE_TOO_HIGH)?;
+        if symbol >= curve.field().size() {
+            return Err(Outcome::SYMBOL_TOO_HIGH);
+        }
+        if held != MISSING && held != symbol {
+            return Err(Outcome::PLACE_HOLDS_ANOTHER);
+        }
+        Ok(())
+    }
+
+    fn with_stored(mut self, place: u8, symbol: u8) -> Session {
+        if let Some(held) = self.places.get_mut(usize::from(place)) {
+            *held = symbol;
+        }
+        self
+    }
+
+    /// The first n places; those from n on are never read.
+    fn used_places(&self, curve: Curve) -> &[u8] {
+        &self.places[..curve.point_count()]
+    }
+}
+
+#[cfg(test)]
+mod tests {
+    use super::*;
+    use crate::generator::Generator;
+    use crate::sample::{self, Shape};
+
+    fn opened(q: u8, m: u8) -> Session {
+        let (session, outcome) = Session::open(q, m);
+        assert_eq!(outcome, Outcome::ACCEPTED);
+        session
+    }
+
+    fn refused_arrival(session: Session, place: u8, symbol: u8) -> Outcome {
+        let (after, outcome) = session.arrive(place, symbol);
+        assert_ne!(outcome, Outcome::ACCEPTED);
+        assert_eq!(after, session);
+        outcome
+    }
+
+    fn after_arrivals(session: Session, arrivals: &[(u8, u8)]) -> Session {
+        arrivals.iter().fold(session, |session, &(place, symbol)| {
+            let (after, outcome) = session.arrive(place, symbol);
+            assert_eq!(outcome, Outcome::ACCEPTED);
+            after
+        })
+    }
+
+    #[test]
+    fn opening_marks_all_64_places_missing() {
+        for q in 0..=255 {
+            for m in 0..=255 {
+                let (session, outcome) = Session::open(q, m);
+                match (q, m) {
+                    (2, 0..=7) | (4, 0..=63) => {
+                        assert_eq!(outcome, Outcome::ACCEPTED);
+                        assert_eq!((session.q, session.m), (q, m));
+                    }
+                    (2 | 4, _) => assert_eq!(outcome, Outcome::ORDER_TOO_HIGH),
+                    _ => assert_eq!(outcome, Outcome::UNKNOWN_CURVE),
+                }
+                if outcome != Outcome::ACCEPTED {
+                    assert_eq!((session.q, session.m), (2, 0));
+                }
+                assert_eq!(session.places, [255; 64]);
+            }
+        }
+    }
+
+    #[test]
+    fn value_h_in_a_session() {
+        let session = after_arrivals(opened(2, 3), &[(0, 0), (4, 0), (7, 0)]);
+        let mut message = [9; 3];
+        let outcome = session.ask(&mut message);
+        assert_eq!(outcome, Outcome::several_messages_fit(1));
+        assert_eq!(message, [9; 3]);
+        let session = after_arrivals(session, &[(1, 1)]);
+        assert_eq!(session.ask(&mut message), Outcome::ACCEPTED);
+        assert_eq!(message, [0, 1, 1]);
+        assert_eq!(session.ask(&mut message), Outcome::ACCEPTED);
+    }
+
+    #[test]
+    fn nothing_arrived_at_every_order() {
+        for curve in Curve::BOTH {
+            for m in (0..=u8::MAX).take(curve.point_count()) {
+                let k = curve.terms(m).len();
+                let mut message = vec![7; k];
+                let outcome = opened(curve.q(), m).ask(&mut message);
+                assert_eq!(outcome.number, 10);
+                assert_eq!(usize::from(outcome.second), k);
+                assert_eq!(message, vec![7; k]);
+            }
+        }
+    }
+
+    #[test]
+    fn the_same_symbol_again_is_accepted_and_changes_nothing() {
+        let session = after_arrivals(opened(4, 37), &[(63, 15)]);
+        assert_eq!(session.places[63], 15);
+        assert_eq!(after_arrivals(session, &[(63, 15)]), session);
+    }
+
+    #[test]
+    fn arrivals_are_refused_in_the_order_of_the_checks() {
+        let mut session = Session {
+            q: 3,
+            m: 64,
+            places: [254; 64],
+        };
+        assert_eq!(refused_arrival(session, 64, 16), Outcome::UNKNOWN_CURVE);
+        session.q = 4;
+        assert_eq!(refused_arrival(session, 64, 16), Outcome::ORDER_TOO_HIGH);
+        session.m = 63;
+        let bad_value = Outcome::value_too_high(0);
+        assert_eq!(refused_arrival(session, 64, 16), bad_value);
+        session.places = [1; 64];
+        assert_eq!(refused_arrival(session, 64, 16), Outcome::PLACE_TOO_HIGH);
+        assert_eq!(refused_arrival(session, 63, 16), Outcome::SYMBOL_TOO_HIGH);
+        assert_eq!(refused_arrival(session, 63, 255), Outcome::SYMBOL_TOO_HIGH);
+        let clash = Outcome::PLACE_HOLDS_ANOTHER;
+        assert_eq!(refused_arrival(session, 63, 15), clash);
+        assert_eq!(after_arrivals(session, &[(63, 1)]), session);
+    }
+
+    #[test]
+    fn askings_are_refused_in_the_order_of_the_checks() {
+        let mut session = Session {
+            q: 255,
+            m: 8,
+            places: [4; 64],
+        };
+        let ask = |session: &Session, length: usize| {
+            let mut message = vec![200; length];
+            let outcome = session.ask(&mut message);
+            assert_eq!(message, vec![200; length]);
+            outcome
+        };
+        assert_eq!(ask(&session, 99), Outcome::UNKNOWN_CURVE);
+        session.q = 2;
+        assert_eq!(ask(&session, 99), Outcome::ORDER_TOO_HIGH);
+        session.m = 7;
+        session.places[..5].copy_from_slice(&[0, 255, 1, 2, 3]);
+        assert_eq!(ask(&session, 99), Outcome::value_too_high(5));
+        session.places[..8].copy_from_slice(&[0, 0, 0, 0, 0, 0, 0, 1]);
+        for length in [0, 6, 8, 99] {
+            assert_eq!(ask(&session, length), Outcome::WRONG_OUTPUT_LENGTH);
+        }
+        assert_eq!(ask(&session, 7), Outcome::NO_MESSAGE_FITS);
+        session.places[6..8].copy_from_slice(&[255, 255]);
+        assert_eq!(ask(&session, 7), Outcome::several_messages_fit(1));
+    }
+
+    #[test]
+    fn places_from_n_on_are_never_read() {
+        let mut session = opened(2, 3);
+        for (index, held) in session.places.iter_mut().enumerate().skip(8) {
+            *held = 190 + index as u8;
+        }
+        let full = after_arrivals(session, &[(0, 0), (4, 0), (7, 0), (1, 1)]);
+        assert_eq!(full.places[8..], session.places[8..]);
+        let mut message = [0; 3];
+        assert_eq!(full.ask(&mut message), Outcome::ACCEPTED);
+        assert_eq!(message, [0, 1, 1]);
+        for place in 8..=255 {
+            assert_eq!(refused_arrival(full, place, 0), Outcome::PLACE_TOO_HIGH);
+        }
+    }
+
+    #[test]
+    fn every_session_value_gets_an_answer() {
+        let mut generator = Generator::with_seed(31);
+        for round in 0..20_000 {
+            let mut places = [0; PLACE_COUNT];
+            places.fill_with(|| generator.byte());
+            let session = Session {
+                q: [2, 4, 0, 3][round % 4],
+                m: generator.byte(),
+                places,
+            };
+            let (after, outcome) = session.arrive(generator.byte(), generator.byte());
+            assert!(outcome == Outcome::ACCEPTED || after == session);
+            let mut message = generator.bytes(round % 72);
+            session.ask(&mut message);
+        }
+    }
+
+    /// The slate of the paper: worked out from the arguments alone.
+    struct Slate {
+        symbols: Vec<Option<u8>>,
+        field_size: u8,
+    }
+
+    impl Slate {
+        fn takes(&mut self, place: u8, symbol: u8) -> bool {
+            let Some(held) = self.symbols.get_mut(usize::from(place)) else {
+                return false;
+            };
+            if symbol >= self.field_size {
+                return false;
+            }
+            *held.get_or_insert(symbol) == symbol
+        }
+
+        fn fits(&self, word: &[u8]) -> bool {
+            let pairs = self.symbols.iter().zip(word);
+            pairs
+                .into_iter()
+                .all(|(held, symbol)| held.is_none_or(|held| held == *symbol))
+        }
+    }
+
+    #[test]
+    fn lists_of_arrivals_and_askings_agree_with_the_slate() {
+        let mut generator = Generator::with_seed(32);
+        for m in (0..5).cycle().take(600) {
+            follow_the_slate(&mut generator, Shape::of(Curve::Q_IS_2, m));
+        }
+    }
+
+    fn follow_the_slate(generator: &mut Generator, shape: Shape) {
+        let words = sample::all_messages_with_words(shape);
+        let (_, target) = words[generator.below(words.len())].clone();
+        let mut session = opened(shape.q(), shape.m);
+        let mut slate = Slate {
+            symbols: vec![None; shape.n],
+            field_size: shape.field_size,
+        };
+        for _ in 0..20 {
+            let place = generator.below(10);
+            let rubbish = generator.below(6) as u8;
+            let follows_target = place < shape.n && generator.below(8) > 0;
+            let symbol = if follows_target {
+                target[place]
+            } else {
+                rubbish
+            };
+            let (after, outcome) = session.arrive(place as u8, symbol);
+            let taken = slate.takes(place as u8, symbol);
+            assert_eq!(outcome == Outcome::ACCEPTED, taken);
+            session = after;
+            ask_by_the_slate(&session, &slate, &words, shape.k);
+        }
+    }
+
+    fn ask_by_the_slate(session: &Session, slate: &Slate, words: &[(Vec<u8>, Vec<u8>)], k: usize) {
+        let fitting: Vec<&Vec<u8>> = words
+            .iter()
+            .filter(|(_, word)| slate.fits(word))
+            .map(|(message, _)| message)
+            .collect();
+        let mut message = vec![99; k];
+        let outcome = session.ask(&mut message);
+        match fitting.as_slice() {
+            [] => assert_eq!(outcome, Outcome::NO_MESSAGE_FITS),
+            [only] => {
+                assert_eq!(outcome, Outcome::ACCEPTED);
+                assert_eq!(&message, *only);
+            }
+            several => {
+                assert_eq!(outcome.number, 10);
+                assert_eq!(4usize.pow(u32::from(outcome.second)), several.len());
+            }
+        }
+    }
+}

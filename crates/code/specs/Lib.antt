@@ -2,3 +2,11 @@ pub mod Passing
 pub mod Points
 pub mod Terms
 pub mod Word
+pub mod Grid
+pub mod Checks
+pub mod Answers
+pub mod Encoded
+pub mod Exponent
+pub mod Fitting
+pub mod Unencoded
+pub mod Recovered

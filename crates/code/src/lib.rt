@@ -1,1 +1,2 @@
 // The curve, its words, and their encoding, unencoding and recovery.
+pub mod check;

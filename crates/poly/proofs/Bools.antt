@@ -1,7 +1,7 @@
 -- Tests and their values.
 -- Assumes nothing.
 use mathlib.Core.Path.{_≡_, refl}
-use mathlib.Core.Bool.{Bool, true, false, _&&_}
+use mathlib.Core.Bool.{Bool, true, false, _&&_, _||_}
 use mathlib.Core.Logic.{_⊎_, inl, inr}
 use lib.Dec.{T}
 
@@ -24,3 +24,24 @@ both false b h k = h
 pub parts : (a b : Bool) → T (a && b) → T a × T b
 parts true b h = (tt, h)
 parts false b h = absurd h
+
+pub of-or : (a b : Bool) → T (a || b) → T a ⊎ T b
+of-or true b t = inl tt
+of-or false true t = inr tt
+of-or false false t = absurd t
+
+pub or-left : (a b : Bool) → T a → T (a || b)
+or-left true b t = tt
+or-left false b t = absurd t
+
+pub or-right : (a b : Bool) → T b → T (a || b)
+or-right true b t = tt
+or-right false true t = tt
+or-right false false t = t
+
+-- two tests that follow from each other are equal
+pub same-test : (a b : Bool) → (T a → T b) → (T b → T a) → a ≡ b
+same-test true true f g = refl
+same-test true false f g = absurd (f tt)
+same-test false true f g = absurd (g tt)
+same-test false false f g = refl

@@ -4,3 +4,5 @@ pub mod Below
 pub mod Messages
 pub mod Writes
 pub mod Parts
+pub mod Entries
+pub mod Filter

@@ -1,0 +1,72 @@
+// The checks 1 to 5 that the entries share.
+ghost use mathlib.Core.Path.{_≡_};
+ghost use Prim.Native.Nat.{_≤_};
+ghost use Rattle.field.specs.declared.outcome.Outcome.the-variants.{Done};
+ghost use Rattle.code.specs.Checks.{orderChecks, badValue, firstBad, sliceChecks};
+use field::Curve;
+use field::Named;
+use field::Outcome;
+
+// 1 and 2.
+pub fn order(q: u8, m: usize) -> Outcome
+    ensures { λ r. ⌜ r ≡ orderChecks q m Done ⌝ }
+{
+    let Named::Is(curve) = Curve::of(q) else {
+        return Outcome::BadCurve;
+    };
+    if curve.points <= m {
+        return Outcome::BadOrder;
+    }
+    Outcome::Done
+}
+
+fn is_bad(gaps: bool, size: u8, x: u8) -> bool
+    ensures { λ r. ⌜ r ≡ badValue gaps size x ⌝ }
+{
+    if x < size {
+        return false;
+    }
+    if gaps {
+        return x != 255;
+    }
+    true
+}
+
+// The lowest index of a value that is no symbol, nor 255 where gaps are allowed; the length where there is none.
+pub fn first_bad(gaps: bool, size: u8, values: &[u8]) -> usize
+    ensures { λ r. ⌜ r ≡ firstBad (badValue gaps size) (now (values .entry)) ⌝ }
+{
+    let mut i = 0;
+    while i < values.len() {
+        if is_bad(gaps, size, values[i]) {
+            return i;
+        }
+        i += 1;
+    }
+    i
+}
+
+// 3, 4 and 5.
+pub fn slices(
+    gaps: bool,
+    size: u8,
+    takes: usize,
+    input: &[u8],
+    writes: usize,
+    room: usize,
+) -> Outcome
+    requires { ⌜ takes ≤ 255 ⌝ }
+    ensures { λ r. ⌜ r ≡ sliceChecks gaps size takes (now (input .entry)) writes room Done ⌝ }
+{
+    if input.len() != takes {
+        return Outcome::BadLength;
+    }
+    let bad = first_bad(gaps, size, input);
+    if bad < takes {
+        return Outcome::BadValue(bad as u8);
+    }
+    if room != writes {
+        return Outcome::BadRoom;
+    }
+    Outcome::Done
+}

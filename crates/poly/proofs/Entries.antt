@@ -1,0 +1,37 @@
+-- What stands at an index of a list: of zeros, of a map, after a store; and lists of symbols.
+-- Assumes nothing.
+use mathlib.Core.List.{List, [], _∷_, map}
+use mathlib.Core.Path.{_≡_, refl, ap₂}
+use Prim.Native.Nat.{ℕ, zero, suc, _≤_, _<_}
+use native.Mathlib.Decide.{decLt, ℕ-discrete}
+use native.Mathlib.Omega.{arith}
+use lib.ListN.{length, getD, set, replicate, getD-replicate, length-replicate, List·getD-eq-default}
+use lib.Seq.{getD-set-same, getD-set-other, set-out}
+use Rattle.poly.specs.Ranges.{Below}
+
+pub getD-zeros : (n i : ℕ) → getD {A = ℕ} (replicate n 0) i 0 ≡ 0
+getD-zeros n i =
+    elim (decLt i n) [
+      | yes l ↦ getD-replicate n i 0 0 l
+      | no d ↦ List·getD-eq-default (replicate n 0) 0 (omega (arith, length-replicate {A = ℕ} n 0))
+    ]
+
+pub getD-map : (f : ℕ → ℕ) (l : List ℕ) (i : ℕ) → i < length l → getD (map f l) i 0 ≡ f (getD l i 0)
+getD-map f [] i l = absurd (omega arith)
+getD-map f (x ∷ xs) zero l = refl
+getD-map f (x ∷ xs) (suc i) l = getD-map f xs i (omega arith)
+
+pub map-cong : (f g : ℕ → ℕ) (l : List ℕ) → ((y : ℕ) → f y ≡ g y) → map f l ≡ map g l
+map-cong f g [] h = refl
+map-cong f g (y ∷ ys) h = ap₂ _∷_ (h y) (map-cong f g ys h)
+
+pub below-zeros : (b n : ℕ) → 0 < b → Below b (replicate n 0)
+below-zeros b n pos i = rw (getD-zeros n i) pos
+
+pub below-set : (b : ℕ) (list : List ℕ) (i v : ℕ) → Below b list → v < b → Below b (set list i v)
+below-set b list i v s l k = go (ℕ-discrete k i) (decLt i (length list))
+  where
+    go : Dec (k ≡ i) → Dec (i < length list) → getD (set list i v) k 0 < b
+    go (no d) e = rw (getD-set-other list i k v 0 d) (s k)
+    go (yes h) (yes in-range) = rw (h, getD-set-same list i v 0 in-range) l
+    go (yes h) (no d) = rw (set-out list i v (omega arith)) (s k)

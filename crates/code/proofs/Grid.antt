@@ -13,7 +13,8 @@ use borrow.Author.Tests.{le-leb, lt-leb}
 use lib.ListN.{length, getD, take, set, replicate, length-set, length-replicate, getD-replicate, length-map, List·getD-eq-default}
 use lib.Seq.{take-suc-set, take-all, getD-set-same, getD-set-other, ext-getD}
 use Rattle.poly.proofs.Bools.{true-or-false}
-use Rattle.poly.proofs.Entries.{getD-zeros, getD-map}
+use Rattle.poly.proofs.Lists.{getD-map}
+use Rattle.poly.proofs.Entries.{getD-zeros}
 use Rattle.code.specs.Passing.{passing}
 use Rattle.code.specs.Terms.{isTerm, weights, size}
 use Rattle.code.specs.Grid.{weightOf, entryOf, rank, scatterBelow, scatter, gather}
@@ -94,7 +95,7 @@ module _ (q m : ℕ) (grid : List ℕ) where
   pub gather-at : (w : ℕ) → isTerm q w ≡ true → w ≤ m → getD (gather q m grid) (rank q w) 0 ≡ getD grid (entryOf q w) 0
   unfolding gather
   gather-at w t l =
-      getD-map (λ v. getD grid (entryOf q v) 0) (weights q m) (rank q w) (place-lt (isTerm q) w (suc m) t (omega arith))
+      getD-map (λ v. getD grid (entryOf q v) 0) (weights q m) 0 0 (rank q w) (place-lt (isTerm q) w (suc m) t (omega arith))
       ∙ ap (λ (v : ℕ). getD grid (entryOf q v) 0) (passing-at (isTerm q) (suc m) w t (omega arith))
 
 module _ (q : ℕ) (pos : 0 < q) (n m : ℕ) where

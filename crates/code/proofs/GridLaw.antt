@@ -14,7 +14,8 @@ use Rattle.field.specs.Power.{power}
 use Rattle.field.specs.Sum.{sum}
 use Rattle.field.proofs.Fields.{fieldOf}
 use Rattle.field.proofs.FieldLaws.{times-zero}
-use Rattle.field.proofs.Sums.{sum-suc, sum-cong, sum-zeros, sum-blocks, sum-set}
+use Rattle.field.proofs.Sums.{sum-suc, sum-cong, sum-zeros, sum-blocks, sum-set, sum-swap, sum-scale}
+use Rattle.poly.specs.Polynomials.{value}
 use Rattle.poly.proofs.Bools.{true-or-false}
 use Rattle.code.specs.Passing.{passing}
 use Rattle.code.specs.Terms.{isTerm, xPower, yPower, weights, size}
@@ -90,3 +91,24 @@ module _ (q : ℕ) (pos : 0 < q) (x y : ℕ) where
       (λ i _. sum-cong q (λ j. fieldOf q .times (at-entry (q * i + j)) (getD (scatter q n m message) (q * i + j) 0))
       (λ j. fieldOf q .times (fieldOf q .times (power (fieldOf q) x i) (power (fieldOf q) y j)) (getD (scatter q n m message) (q * i + j) 0))
       (λ j h. rw (quotient q pos i j h, remainder q pos i j h)))
+
+-- the value at a point in two stages: the polynomial in x of each y^j at x, then the polynomial in y of these values at y
+pub two-stages : (q : ℕ) → 0 < q → (c n m : ℕ) (message : List ℕ) (x y : ℕ) → m < q * c → q * c ≤ n
+    → valueAt q m message x y ≡ value (fieldOf q) q (λ j. value (fieldOf q) c (λ i. getD (scatter q n m message) (q * i + j) 0) x) y
+unfolding value
+two-stages q pos c n m message x y l fits =
+    grid-law q pos x y c n m message l fits
+    ∙ sum-swap c q (λ i j. fieldOf q .times (fieldOf q .times (power (fieldOf q) x i) (power (fieldOf q) y j)) (g i j))
+    ∙ sum-cong q (λ j. sum c (λ i. fieldOf q .times (fieldOf q .times (power (fieldOf q) x i) (power (fieldOf q) y j)) (g i j)))
+    (λ j. fieldOf q .times (sum c (λ i. fieldOf q .times (g i j) (power (fieldOf q) x i))) (power (fieldOf q) y j))
+    (λ j _. sum-cong c (λ i. fieldOf q .times (fieldOf q .times (power (fieldOf q) x i) (power (fieldOf q) y j)) (g i j))
+    (λ i. fieldOf q .times (power (fieldOf q) y j) (fieldOf q .times (g i j) (power (fieldOf q) x i))) (λ i _. turn (power (fieldOf q) x i) (power (fieldOf q) y j) (g i j))
+    ∙ sum-scale (fieldOf q) c (power (fieldOf q) y j) (λ i. fieldOf q .times (g i j) (power (fieldOf q) x i))
+    ∙ fieldOf q .times-comm (power (fieldOf q) y j) (sum c (λ i. fieldOf q .times (g i j) (power (fieldOf q) x i))))
+  where
+    g : ℕ → ℕ → ℕ
+    g i j = getD (scatter q n m message) (q * i + j) 0
+
+    turn : (a b v : ℕ) → fieldOf q .times (fieldOf q .times a b) v ≡ fieldOf q .times b (fieldOf q .times v a)
+    turn a b v =
+        ap (λ (t : ℕ). fieldOf q .times t v) (fieldOf q .times-comm a b) ∙ fieldOf q .times-assoc b a v ∙ ap (fieldOf q .times b) (fieldOf q .times-comm a v)

@@ -4,3 +4,9 @@ pub mod Grid
 pub mod Order
 pub mod GridLaw
 pub mod Checks
+pub mod Columns
+pub mod Hermitian
+pub mod Coefficients
+pub mod Points
+pub mod Word
+pub mod Zeros

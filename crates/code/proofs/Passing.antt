@@ -1,16 +1,19 @@
--- Laws of the numbers that pass a test. The place of a number is how many before it pass.
+-- The laws of the numbers that pass a test. The place of a number is how many before it pass.
 -- Assumes nothing.
 use mathlib.Core.Bool.{Bool, true, false, cond}
 use mathlib.Core.Logic.{_⊎_, inl, inr}
-use mathlib.Core.List.{List, [], _∷_, _++_, append-nil}
+use mathlib.Core.List.{[], _∷_, _++_, append-nil, List·Memᴰ as Mem, List·Memᴰ·not-nil as not-nil}
+use mathlib.Core.List.{List·Memᴰ·append-cases as append-cases, List·Memᴰ·eq-of-singleton as eq-of-singleton}
 use mathlib.Core.Path.{_≡_, refl, sym, ap, _∙_}
-use Prim.Native.Nat.{ℕ, zero, suc, _+_, _≤_, _<_}
+use Prim.Native.Nat.{ℕ, zero, suc, _≤_, _<_}
 use native.Mathlib.Decide.{le-ind, decLt, ℕ-discrete}
 use native.Mathlib.Nat.{le-refl}
 use native.Mathlib.Omega.{arith}
 use lib.ListN.{length, getD, length-append, List·getD-append}
 use lib.Seq.{getD-append-seam}
+use Rattle.poly.specs.Lists.{Nodup}
 use Rattle.poly.proofs.Bools.{true-or-false}
+use Rattle.poly.proofs.Lists.{nodup-append}
 use Rattle.code.specs.Passing.{passing}
 
 module _ (p : ℕ → Bool) where
@@ -92,3 +95,30 @@ module _ (p : ℕ → Bool) where
   place-bound (suc n) =
       elim (true-or-false (p n))
       [ inl e ↦ omega (arith, place-true n e, place-bound n) | inr e ↦ omega (arith, place-false n e, place-bound n) ]
+
+  -- the list as a set
+  pub of-mem-passing : (n w : ℕ) → Mem w (passing p n) → (w < n) × (p w ≡ true)
+  unfolding passing
+  of-mem-passing zero w m = absurd (not-nil m)
+  of-mem-passing (suc n) w m = go (p n) refl (append-cases (passing p n) m) (of-mem-passing n w)
+    where
+      go : (b : Bool) → p n ≡ b → Mem w (passing p n) ⊎ Mem w (cond b (n ∷ []) []) → (Mem w (passing p n) → (w < n) × (p w ≡ true))
+          → (w < suc n) × (p w ≡ true)
+      go b e (inl k) ih = let r = ih k in (omega (arith, r .0), r .1)
+      go true e (inr k) ih = let h = eq-of-singleton k in (omega arith, rw h e)
+      go false e (inr k) ih = absurd (not-nil k)
+
+  pub nodup-passing : (n : ℕ) → Nodup (passing p n)
+  unfolding passing
+  nodup-passing zero = tt
+  nodup-passing (suc n) =
+      nodup-append (passing p n) (cond (p n) (n ∷ []) []) (nodup-passing n) (go (p n))
+      λ w k l. omega (arith, of-mem-passing n w k .0, last (p n) w l)
+    where
+      go : (b : Bool) → Nodup (cond b (n ∷ []) [])
+      go true = (not-nil, tt)
+      go false = tt
+
+      last : (b : Bool) (w : ℕ) → Mem w (cond b (n ∷ []) []) → w ≡ n
+      last true w k = eq-of-singleton k
+      last false w k = absurd (not-nil k)

@@ -77,7 +77,7 @@ pub plus-cancel : (a b : ℕ) → plus a (plus a b) ≡ b
 plus-cancel a b = sym (plus-assoc a a b) ∙ ap (λ (x : ℕ). plus x b) (plus-self a) ∙ zero-plus b
 
 -- `simp plus-ac` sorts a sum, and what stands twice in it goes
-pub ruleset plus-ac = (plus-assoc, plus-comm, plus-left-comm, plus-self, plus-cancel, plus-zero)
+pub ruleset plus-ac = (plus-assoc, plus-comm, plus-left-comm, plus-self, plus-cancel, plus-zero, zero-plus)
 
 pub plus-exchange : (a b c d : ℕ) → plus (plus a b) (plus c d) ≡ plus (plus a c) (plus b d)
 plus-exchange a b c d = simp (plus-assoc, plus-left-comm)

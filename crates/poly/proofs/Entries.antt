@@ -1,4 +1,4 @@
--- What stands at an index of a list: of zeros, of a map, after a store; and lists of symbols.
+-- What stands at an index of a list: of zeros, after a store; and lists of symbols.
 -- Assumes nothing.
 use mathlib.Core.List.{List, [], _∷_, map}
 use mathlib.Core.Path.{_≡_, refl, ap₂}
@@ -15,11 +15,6 @@ getD-zeros n i =
       | yes l ↦ getD-replicate n i 0 0 l
       | no d ↦ List·getD-eq-default (replicate n 0) 0 (omega (arith, length-replicate {A = ℕ} n 0))
     ]
-
-pub getD-map : (f : ℕ → ℕ) (l : List ℕ) (i : ℕ) → i < length l → getD (map f l) i 0 ≡ f (getD l i 0)
-getD-map f [] i l = absurd (omega arith)
-getD-map f (x ∷ xs) zero l = refl
-getD-map f (x ∷ xs) (suc i) l = getD-map f xs i (omega arith)
 
 pub map-cong : (f g : ℕ → ℕ) (l : List ℕ) → ((y : ℕ) → f y ≡ g y) → map f l ≡ map g l
 map-cong f g [] h = refl

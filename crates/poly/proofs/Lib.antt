@@ -6,3 +6,12 @@ pub mod Writes
 pub mod Parts
 pub mod Entries
 pub mod Filter
+pub mod Values
+pub mod Keep
+pub mod Span
+pub mod SpanDimension
+pub mod Shifts
+pub mod OrderDomain
+pub mod OrderValues
+pub mod OrderZeros
+pub mod OrderInterpolation

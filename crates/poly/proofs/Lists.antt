@@ -6,11 +6,11 @@ use mathlib.Core.Bool.{Bool, true, false, not}
 use mathlib.Core.List.{List, [], _∷_, _++_, map, flatMap, List·Memᴰ as Mem, List·Memᴰ·head as head, List·Memᴰ·tail as tail}
 use mathlib.Core.List.{List·Memᴰ·cases-cons as cases-cons, List·Memᴰ·not-nil as not-nil, List·Memᴰ·append-cases as append-cases}
 use mathlib.Core.List.{Memᴰ·cast, Memᴰ·append-left, Memᴰ·append-right, Memᴰ·of-map}
-use Prim.Native.Nat.{ℕ, suc, _+_, _*_, _≤_, _<_, zero-le, suc-le-suc}
+use Prim.Native.Nat.{ℕ, zero, suc, _+_, _*_, _≤_, _<_, zero-le, suc-le-suc}
 use native.Mathlib.Nat.{zero-add, zero-mul, suc-mul, add-mul}
 use native.Mathlib.Omega.{arith}
 use lib.Dec.{T, not-T}
-use lib.ListN.{length, length-append}
+use lib.ListN.{length, getD, length-append}
 use Rattle.poly.specs.Lists.{oneIf, Nodup, count}
 
 pub oneIf-le : (b : Bool) → oneIf b ≤ 1
@@ -126,6 +126,24 @@ module _ {A : Type 0} where
         rw (oneIf-false (p x) (not-T (p x) (λ s. d .0 (Memᴰ·cast (u x (head refl) s) k))), count-one p a xs (d .1) k t (λ y l. u y (tail l)))
   ]
 
+  -- what stands at a place is an element, and at different places of a list with none twice stand different ones
+  pub mem-getD : (xs : List A) (d : A) (i : ℕ) → i < length xs → Mem (getD xs i d) xs
+  mem-getD [] d i h = absurd (omega arith)
+  mem-getD (x ∷ xs) d zero h = head refl
+  mem-getD (x ∷ xs) d (suc i) h = tail (mem-getD xs d i (omega arith))
+
+  pub getD-mem : (xs : List A) (d : A) {a : A} → Mem a xs → (i : ℕ) × (i < length xs) × (getD xs i d ≡ a)
+  getD-mem [] d m = absurd (not-nil m)
+  getD-mem (x ∷ xs) d m =
+      elim (cases-cons m) [ inl e ↦ (0, omega arith, sym e) | inr k ↦ let w = getD-mem xs d k in (suc (w .0), omega (arith, w .1), w .2) ]
+
+  pub nodup-getD : (xs : List A) (d : A) → Nodup xs → (i j : ℕ) → i < length xs → j < length xs → getD xs i d ≡ getD xs j d → i ≡ j
+  nodup-getD [] d n i j h k e = absurd (omega arith)
+  nodup-getD (x ∷ xs) d n zero zero h k e = refl
+  nodup-getD (x ∷ xs) d n zero (suc j) h k e = absurd (n .0 (Memᴰ·cast e (mem-getD xs d j (omega arith))))
+  nodup-getD (x ∷ xs) d n (suc i) zero h k e = absurd (n .0 (Memᴰ·cast (sym e) (mem-getD xs d i (omega arith))))
+  nodup-getD (x ∷ xs) d n (suc i) (suc j) h k e = ap suc (nodup-getD xs d (n .1) i j (omega arith) (omega arith) e)
+
   -- a search through a list: an element with P, or Q of them all
   pub find : (P Q : A → Type 0) → ((x : A) → P x ⊎ Q x) → (xs : List A) → ((x : A) × Mem x xs × P x) ⊎ ((x : A) → Mem x xs → Q x)
   find P Q test [] = inr (λ x m. absurd (not-nil m))
@@ -143,6 +161,11 @@ module _ {A B : Type 0} where
     λ m. let w = Memᴰ·of-map f xs m in d .0 (Memᴰ·cast (inj x (w .0) (head refl) (tail (w .1)) (sym (w .2))) (w .1)),
     nodup-map f xs (λ a b k l. inj a b (tail k) (tail l)) (d .1),
   )
+
+  pub getD-map : (f : A → B) (xs : List A) (d : A) (e : B) (i : ℕ) → i < length xs → getD (map f xs) i e ≡ f (getD xs i d)
+  getD-map f [] d e i h = absurd (omega arith)
+  getD-map f (x ∷ xs) d e zero h = refl
+  getD-map f (x ∷ xs) d e (suc i) h = getD-map f xs d e i (omega arith)
 
   pub mem-flatMap : (f : A → List B) {b : B} {a : A} (xs : List A) → Mem a xs → Mem b (f a) → Mem b (flatMap f xs)
   unfolding flatMap

@@ -7,13 +7,14 @@ use mathlib.Core.List.{List, [], _∷_, _++_, map, flatMap, concat-ne-nil, List�
 use mathlib.Core.List.{List·Memᴰ·cases-cons as cases-cons, List·Memᴰ·not-nil as not-nil, List·Memᴰ·eq-of-singleton, Memᴰ·cast, Memᴰ·map, Memᴰ·of-map}
 use Prim.Native.Nat.{ℕ, zero, suc, _+_, _^_, _<_}
 use native.Mathlib.Nat.{le-refl, pow-zero, pow-suc}
-use native.Mathlib.Decide.{ℕ-discrete}
+use native.Mathlib.Decide.{ℕ-discrete, decLt}
 use native.Mathlib.Omega.{arith}
 use lib.Dec.{T}
-use lib.ListN.{length, getD, take, length-append, length-map, List·getD-append}
+use lib.ListN.{length, getD, take, length-append, length-map, List·getD-append, List·getD-eq-default}
 use lib.Seq.{take-suc, take-all, length-take-le, getD-take, getD-at, ext-getD}
 use Rattle.poly.specs.Lists.{below, Nodup}
 use Rattle.poly.specs.Messages.{Vector, snoc, all}
+use Rattle.poly.specs.Ranges.{Below}
 use Rattle.poly.proofs.Lists.{nodup-map, mem-flatMap, of-mem-flatMap, nodup-flatMap, length-flatMap}
 use Rattle.poly.proofs.Below.{length-below, mem-below, of-mem-below, nodup-below}
 
@@ -66,6 +67,13 @@ getD-tabulate (suc n) f i h = elim (ℕ-discrete i n) [
 
 pub vector-tabulate : (q n : ℕ) (f : ℕ → ℕ) → ((i : ℕ) → i < n → f i < q) → Vector q n (tabulate n f)
 vector-tabulate q n f h = record { len = length-tabulate n f; small = λ i l. rw (getD-tabulate n f i l) (h i l) }
+
+-- a vector's numbers are below the bound past its end, too
+pub vector-below : (q k : ℕ) (v : List ℕ) → 0 < q → Vector q k v → Below q v
+vector-below q k v pos h i = elim (decLt i k) [
+  | yes l ↦ h .small i l
+  | no d ↦ rw (List·getD-eq-default v 0 {n = i} (omega (arith, h .len))) pos
+]
 
 pub vector-ext : (q n : ℕ) (v w : List ℕ) → Vector q n v → Vector q n w → ((i : ℕ) → i < n → getD v i 0 ≡ getD w i 0) → v ≡ w
 vector-ext q n v w hv hw e = ext-getD 0 v w (hv .len ∙ sym (hw .len)) (λ i l. e i (omega (arith, hv .len)))

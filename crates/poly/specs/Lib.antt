@@ -1,3 +1,4 @@
 pub mod Lists
 pub mod Messages
 pub mod Ranges
+pub mod Polynomials

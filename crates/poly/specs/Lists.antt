@@ -18,6 +18,12 @@ module _ {A : Type 0} where
   count p [] = 0
   count p (x ∷ xs) = oneIf (p x) + count p xs
 
+  -- the list without its element t
+  abbrev pub without : List A → ℕ → List A
+  without [] t = []
+  without (x ∷ xs) zero = xs
+  without (x ∷ xs) (suc t) = x ∷ without xs t
+
 -- n - 1, .., 1, 0
 unfoldable pub below : ℕ → List ℕ
 below zero = []

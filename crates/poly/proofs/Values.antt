@@ -1,0 +1,145 @@
+-- The laws of the value of a polynomial: sums, multiples, more coefficients, a shift, the product by x - a, and Horner's rule.
+-- Assumes nothing.
+use mathlib.Core.Path.{_≡_, refl, sym, ap, ap₂, _∙_}
+use mathlib.Core.List.{List}
+use Prim.Native.Nat.{ℕ, zero, suc, _+_, _-_, _*_, _≤_, _<_}
+use native.Mathlib.Nat.{add-zero, mul-suc, mul-le-mul-left}
+use native.Mathlib.Omega.{arith}
+use lib.ListN.{getD}
+use Rattle.field.specs.Plus.{plus}
+use Rattle.field.specs.Field.{Field}
+use Rattle.field.specs.Power.{power}
+use Rattle.field.specs.Sum.{sum}
+use Rattle.field.proofs.Plus.{plus-comm, plus-assoc, plus-zero}
+use Rattle.field.proofs.FieldLaws.{zero-lt, times-zero, zero-times, plus-times, times-left-comm, times-one-right}
+use Rattle.field.proofs.Powers.{power-zero, power-suc, power-add}
+use Rattle.field.proofs.Sums.{sum-none, sum-suc, sum-cong, sum-zeros, sum-plus, sum-swap, sum-first, sum-add, sum-extend, sum-scale, sum-scale-right, sum-lt}
+use Rattle.poly.specs.Ranges.{Below}
+use Rattle.poly.specs.Polynomials.{value, linear}
+
+-- x times f
+abbrev shift : (ℕ → ℕ) → ℕ → ℕ
+shift f zero = 0
+shift f (suc i) = f i
+
+module _ (F : Field) where
+  abbrev term : (ℕ → ℕ) → ℕ → ℕ → ℕ
+  term f x i = F .times (f i) (power F x i)
+
+  pub value-none : (f : ℕ → ℕ) (x : ℕ) → value F 0 f x ≡ 0
+  unfolding value
+  value-none f x = sum-none (term f x)
+
+  pub value-suc : (n : ℕ) (f : ℕ → ℕ) (x : ℕ) → value F (suc n) f x ≡ plus (value F n f x) (F .times (f n) (power F x n))
+  unfolding value
+  value-suc n f x = sum-suc n (term f x)
+
+  pub value-cong : (n : ℕ) (f g : ℕ → ℕ) (x : ℕ) → ((i : ℕ) → i < n → f i ≡ g i) → value F n f x ≡ value F n g x
+  unfolding value
+  value-cong n f g x h = sum-cong n (term f x) (term g x) (λ i l. ap (λ (v : ℕ). F .times v (power F x i)) (h i l))
+
+  pub value-lt : (n : ℕ) (f : ℕ → ℕ) (x : ℕ) → value F n f x < F .size
+  unfolding value
+  value-lt n f x = sum-lt F n (term f x) (λ i l. F .times-lt (f i) (power F x i))
+
+  pub value-zeros : (n : ℕ) (f : ℕ → ℕ) (x : ℕ) → ((i : ℕ) → i < n → f i ≡ 0) → value F n f x ≡ 0
+  unfolding value
+  value-zeros n f x h = sum-zeros n (term f x) (λ i l. ap (λ (v : ℕ). F .times v (power F x i)) (h i l) ∙ zero-times F (power F x i))
+
+  pub value-plus : (n : ℕ) (f g : ℕ → ℕ) (x : ℕ) → value F n (λ i. plus (f i) (g i)) x ≡ plus (value F n f x) (value F n g x)
+  unfolding value
+  value-plus n f g x =
+      sum-cong n (term (λ i. plus (f i) (g i)) x) (λ i. plus (term f x i) (term g x i)) (λ i l. plus-times F (f i) (g i) (power F x i))
+      ∙ sum-plus n (term f x) (term g x)
+
+  pub value-scale : (n a : ℕ) (f : ℕ → ℕ) (x : ℕ) → value F n (λ i. F .times a (f i)) x ≡ F .times a (value F n f x)
+  unfolding value
+  value-scale n a f x =
+      sum-cong n (term (λ i. F .times a (f i)) x) (λ i. F .times a (term f x i)) (λ i l. F .times-assoc a (f i) (power F x i))
+      ∙ sum-scale F n a (term f x)
+
+  pub value-extend : (m n : ℕ) (f : ℕ → ℕ) (x : ℕ) → m ≤ n → ((i : ℕ) → m ≤ i → i < n → f i ≡ 0) → value F n f x ≡ value F m f x
+  unfolding value
+  value-extend m n f x l h =
+      sum-extend m n (term f x) l (λ i a b. ap (λ (v : ℕ). F .times v (power F x i)) (h i a b) ∙ zero-times F (power F x i))
+
+  -- the first k coefficients, and the others, which have the factor x^k
+  pub value-add : (k m : ℕ) (f : ℕ → ℕ) (x : ℕ) → value F (k + m) f x ≡ plus (value F k f x) (F .times (power F x k) (value F m (λ i. f (k + i)) x))
+  unfolding value
+  value-add k m f x =
+      sum-add k m (term f x)
+      ∙ ap (plus (sum k (term f x)))
+      (sum-cong m (λ i. term f x (k + i)) (λ i. F .times (power F x k) (term (λ i. f (k + i)) x i))
+      (λ i l. ap (F .times (f (k + i))) (power-add F x k i) ∙ times-left-comm F (f (k + i)) (power F x k) (power F x i))
+      ∙ sum-scale F m (power F x k) (term (λ i. f (k + i)) x))
+
+  -- a polynomial in x whose coefficients are polynomials in y
+  pub value-swap : (m n : ℕ) (f : ℕ → ℕ → ℕ) (x y : ℕ) → value F m (λ i. value F n (λ j. f i j) y) x ≡ value F n (λ j. value F m (λ i. f i j) x) y
+  unfolding value
+  value-swap m n f x y =
+      sum-cong m _ (λ i. sum n (λ j. F .times (F .times (f i j) (power F y j)) (power F x i))) (λ i l. sym (sum-scale-right F n (power F x i) (λ j. F .times (f i j) (power F y j))))
+      ∙ sum-swap m n (λ i j. F .times (F .times (f i j) (power F y j)) (power F x i))
+      ∙ sum-cong n _ (λ j. F .times (sum m (λ i. F .times (f i j) (power F x i))) (power F y j))
+      (λ j l.
+      sum-cong m _ (λ i. F .times (F .times (f i j) (power F x i)) (power F y j)) (λ i k. turn (f i j) (power F y j) (power F x i))
+      ∙ sum-scale-right F m (power F y j) (λ i. F .times (f i j) (power F x i)))
+    where
+      turn : (a b c : ℕ) → F .times (F .times a b) c ≡ F .times (F .times a c) b
+      turn a b c = F .times-assoc a b c ∙ ap (F .times a) (F .times-comm b c) ∙ sym (F .times-assoc a c b)
+
+  -- the first coefficient, and the others
+  pub value-first : (n : ℕ) (f : ℕ → ℕ) (x : ℕ) → f 0 < F .size → value F (suc n) f x ≡ plus (F .times x (value F n (λ i. f (suc i)) x)) (f 0)
+  unfolding value
+  value-first n f x l =
+      sum-first n (term f x)
+      ∙ ap₂ plus (ap (F .times (f 0)) (power-zero F x) ∙ times-one-right F (f 0) l)
+      (sum-cong n (λ i. term f x (suc i)) (λ i. F .times x (term (λ i. f (suc i)) x i))
+      (λ i k. ap (F .times (f (suc i))) (power-suc F x i) ∙ times-left-comm F (f (suc i)) x (power F x i))
+      ∙ sum-scale F n x (term (λ i. f (suc i)) x))
+      ∙ plus-comm (f 0) (F .times x (sum n (term (λ i. f (suc i)) x)))
+
+  -- f times (x - a)
+  pub value-linear : (n a : ℕ) (f : ℕ → ℕ) (x : ℕ) → f n ≡ 0 → value F (suc n) (linear F a f) x ≡ F .times (plus x a) (value F n f x)
+  unfolding linear
+  value-linear n a f x z =
+      value-cong (suc n) (linear F a f) (λ i. plus (F .times a (f i)) (shift f i)) x (λ i l. by-parts i)
+      ∙ value-plus (suc n) (λ i. F .times a (f i)) (shift f) x
+      ∙ ap₂ plus
+      (value-scale (suc n) a f x ∙ ap (F .times a) (value-suc n f x ∙ ap (λ (v : ℕ). plus (value F n f x) (F .times v (power F x n))) z ∙ ap (plus (value F n f x)) (zero-times F (power F x n)) ∙ plus-zero (value F n f x)))
+      (value-first n (shift f) x (zero-lt F) ∙ plus-zero (F .times x (value F n f x)))
+      ∙ plus-comm (F .times a (value F n f x)) (F .times x (value F n f x))
+      ∙ sym (plus-times F x a (value F n f x))
+    where
+      by-parts : (i : ℕ) → linear F a f i ≡ plus (F .times a (f i)) (shift f i)
+      by-parts zero = sym (plus-zero (F .times a (f 0)))
+      by-parts (suc i) = refl
+
+-- ---- Horner's rule
+
+-- the index of a turn is within stride * count
+pub stride-lt : (stride start i count : ℕ) → 0 < i → i ≤ count → start < stride → stride * (i - 1) + start < stride * count
+stride-lt stride start i count l b s =
+    omega (arith, mul-suc stride (i - 1), mul-le-mul-left {m = suc (i - 1)} {n = count} stride (omega arith))
+
+module _ (F : Field) where
+  -- where Horner's loop begins, a turn that goes from i to i - 1, and where the loop ends
+  pub horner-none : (n : ℕ) (f : ℕ → ℕ) (x : ℕ) → 0 ≡ value F (n - n) f x
+  horner-none n f x = let z : n - n ≡ 0 = omega arith in sym (ap (λ (k : ℕ). value F k f x) z ∙ value-none F f x)
+
+  pub horner-more : (n i : ℕ) (f : ℕ → ℕ) (x acc : ℕ) → 0 < i → i ≤ n → f (i - 1) < F .size → acc ≡ value F (n - i) (λ k. f (i + k)) x
+      → plus (F .times acc x) (f (i - 1)) ≡ value F (n - (i - 1)) (λ k. f (i - 1 + k)) x
+  horner-more n i f x acc l b small e =
+      let one : n - (i - 1) ≡ suc (n - i) = omega arith in
+      let first : i - 1 + 0 ≡ i - 1 = omega arith in
+      sym (
+      ap (λ (k : ℕ). value F k (λ k. f (i - 1 + k)) x) one
+      ∙ value-first F (n - i) (λ k. f (i - 1 + k)) x (rw first small)
+      ∙ ap₂ plus
+      (ap (F .times x) (value-cong F (n - i) (λ k. f (i - 1 + suc k)) (λ k. f (i + k)) x (λ k _. let same : i - 1 + suc k ≡ i + k = omega arith in ap f same) ∙ sym e) ∙ F .times-comm x acc)
+      (ap f first))
+
+  pub horner-all : (n i : ℕ) (f : ℕ → ℕ) (x acc : ℕ) → i ≤ 0 → acc ≡ value F (n - i) (λ k. f (i + k)) x → acc ≡ value F n f x
+  horner-all n i f x acc l e =
+      let all : n - i ≡ n = omega arith in
+      e ∙ ap (λ (k : ℕ). value F k (λ k. f (i + k)) x) all
+      ∙ value-cong F n (λ k. f (i + k)) f x (λ k _. let same : i + k ≡ k = omega arith in ap f same)

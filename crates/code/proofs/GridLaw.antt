@@ -23,7 +23,7 @@ use Rattle.code.specs.Word.{monomial, valueAt}
 use Rattle.code.specs.Grid.{weightOf, entryOf, rank, scatterBelow, scatter}
 use Rattle.code.proofs.Passing.{passing-true, passing-false, place-true, place-false}
 use Rattle.code.proofs.Weights.{quotient, remainder, entry-x, entry-y, weight-of-entry}
-use Rattle.code.proofs.Grid.{scatter-term, scatter-none, length-scatter, scatter-above}
+use Rattle.code.proofs.GridEntries.{scatter-term, scatter-none, length-scatter, scatter-above}
 
 module _ (q : ℕ) (pos : 0 < q) (x y : ℕ) where
   -- the term of entry e

@@ -1,6 +1,6 @@
 pub mod Passing
 pub mod Weights
-pub mod Grid
+pub mod GridEntries
 pub mod Order
 pub mod GridLaw
 pub mod Checks
@@ -10,3 +10,7 @@ pub mod Coefficients
 pub mod Points
 pub mod Word
 pub mod Zeros
+pub mod YsTables
+pub mod Stages
+pub mod Answers
+pub mod FullColumns

@@ -13,7 +13,7 @@ use lib.Dec.{leb, eqb}
 use lib.ListN.{length, getD}
 use Rattle.code.specs.Grid.{weightOf, scatter, gather, orderAtMost}
 use Rattle.poly.proofs.Bools.{true-or-false}
-use Rattle.code.proofs.Grid.{scatter-above, scatter-gather}
+use Rattle.code.proofs.GridEntries.{scatter-above, scatter-gather}
 
 module _ (q m : ℕ) (grid : List ℕ) where
   abbrev Within : ℕ → Type 0
@@ -70,3 +70,16 @@ within-scatter q pos n m message = within-of q m (scatter q n m message) n (λ e
 pub within-message : (q : ℕ) → 0 < q → (n m : ℕ) (grid : List ℕ) → length grid ≡ n → orderAtMost q m n grid ≡ true
     → scatter q n m (gather q m grid) ≡ grid
 within-message q pos n m grid h t = scatter-gather q pos n m grid h (of-within q m grid n t)
+
+-- a turn of the loop that tests: j is the remainder of e by q, as the code has it
+module _ (q m e j : ℕ) (grid : List ℕ) (d : j ≡ e % q) (h : orderAtMost q m e grid ≡ true) where
+  pub within-turn : (m < e + q * j → getD grid e 0 ≡ 0) → orderAtMost q m (e + 1) grid ≡ true
+  within-turn z =
+      rw (add-one e)
+      (elim (decLt m (weightOf q e)) [
+        | yes l ↦ within-none q m grid e h l (z (rw d l))
+        | no n ↦ within-low q m grid e h (omega arith)
+      ])
+
+  pub within-stop : (n : ℕ) → e < n → m < e + q * j → (getD grid e 0 ≡ 0 → ⊥) → orderAtMost q m n grid ≡ false
+  within-stop n l w z = not-within q m grid n e l (rw (← d) w) z

@@ -9,6 +9,8 @@ use native.Mathlib.Nat.{div-add-mod, mod-lt, mul-sub, mul-add, suc-mul, mul-le-m
 use native.Mathlib.Omega.{arith}
 use borrow.Author.Tests.{le-leb, leb-true}
 use lib.ListN.{length, getD}
+use Rattle.field.specs.Curve.{IsCurve}
+use Rattle.field.proofs.Curves.{sizes}
 use Rattle.code.specs.Passing.{passing}
 use Rattle.code.specs.Terms.{isTerm, xPower, yPower, weights, size}
 use Rattle.code.specs.Grid.{weightOf, entryOf, rank}
@@ -123,3 +125,11 @@ size-4 m l = le-ind (λ (k : ℕ). size 4 k ≡ k - 5) base-4 (λ k a ih. size-s
 
 pub size-le : (q m : ℕ) → size q m ≤ suc m
 size-le q m = place-bound (isTerm q) (suc m)
+
+-- q times a remainder by q is small
+pub small-product : (q : ℕ) → IsCurve q → (w j : ℕ) → j ≡ w % q → q * j ≤ 16
+small-product q curve w j e =
+    let z = sizes q curve in
+    let l : j < q = rw e (mod-lt w (omega (arith, z .low))) in
+    let k : j ≤ q = omega arith in
+    omega (arith, z .symbols, mul-le-mul-left q k)

@@ -10,3 +10,5 @@ pub mod Exponent
 pub mod Fitting
 pub mod Unencoded
 pub mod Recovered
+pub mod Columns
+pub mod Encodable

@@ -1,2 +1,6 @@
 // The curve, its words, and their encoding, unencoding and recovery.
 pub mod check;
+pub mod encoding;
+pub mod grid;
+pub mod point;
+pub mod term;

@@ -15,3 +15,4 @@ pub mod OrderDomain
 pub mod OrderValues
 pub mod OrderZeros
 pub mod OrderInterpolation
+pub mod Blocks

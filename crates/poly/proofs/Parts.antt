@@ -72,3 +72,7 @@ module _ (l : List ℕ) (a e : ℕ) (ys : List ℕ) (ae : a ≤ e) (el : e ≤ l
           let at-j : a + (j - a) ≡ j = omega arith in
           rw (← at-j, put-in (j - a) (omega arith)) (hy (j - a))
       go (no h) (no i) = rw (put-high j (omega arith)) (hl j)
+
+-- of small numbers, as the borrow checker has it
+pub below-back : (n : ℕ) (l ys : List ℕ) (a e : ℕ) → a ≤ e → e ≤ length l → length ys ≡ e - a → Below n l → Below n ys → Below n (putMid a (e - a) l ys)
+below-back n l ys a e ae el yl hl hy i = rw (put-is l a e ys ae) (below-put l a e ys ae el yl n hl hy i)

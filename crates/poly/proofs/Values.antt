@@ -18,7 +18,7 @@ use Rattle.poly.specs.Ranges.{Below}
 use Rattle.poly.specs.Polynomials.{value, linear}
 
 -- x times f
-abbrev shift : (ℕ → ℕ) → ℕ → ℕ
+abbrev pub shift : (ℕ → ℕ) → ℕ → ℕ
 shift f zero = 0
 shift f (suc i) = f i
 

@@ -1,15 +1,15 @@
 -- A loop that writes a range anew: the length, what stands where it wrote and where it did not, and what a turn does.
 -- Assumes nothing.
 use mathlib.Core.Path.{_≡_, refl, sym, ap, _∙_}
-use mathlib.Core.List.{List}
+use mathlib.Core.List.{List, [], _∷_, map, map-append}
 use mathlib.Core.Logic.{⊎-elim}
 use Prim.Native.Nat.{ℕ, zero, suc, _+_, _≤_, _<_}
 use native.Mathlib.Nat.{le-antisymm, eq-or-lt-of-le, not-suc-le-zero, le-of-suc-le-suc}
 use native.Mathlib.Numerals.{add-one}
 use native.Mathlib.Decide.{decLt}
 use native.Mathlib.Omega.{arith}
-use lib.ListN.{length, getD, set, length-set}
-use lib.Seq.{getD-set-same, getD-set-other}
+use lib.ListN.{length, getD, take, set, length-set}
+use lib.Seq.{getD-set-same, getD-set-other, take-suc, take-suc-set, take-all}
 use Rattle.poly.specs.Ranges.{Below, writes}
 
 module _ (l : List ℕ) (f : ℕ → ℕ) where
@@ -53,3 +53,12 @@ module _ (l : List ℕ) (f : ℕ → ℕ) where
       go : Dec (j < n) → getD (writes l n f) j 0 < b
       go (yes i) = rw (writes-in n j i k) (g j i)
       go (no p) = rw (writes-out n j (omega arith)) (h j)
+
+-- a list that is filled from the front with the values of f at the entries of another
+module _ (f : ℕ → ℕ) (places out : List ℕ) (t : ℕ) (same : length out ≡ length places) (done : take t out ≡ map f (take t places)) where
+  pub map-turn : (v : ℕ) → t < length places → v ≡ f (getD places t 0) → take (t + 1) (set out t v) ≡ map f (take (t + 1) places)
+  map-turn v l e =
+      rw (add-one t, take-suc-set out t v (omega arith), take-suc places t 0 l, done, e) (sym (map-append f (take t places) (getD places t 0 ∷ [])))
+
+  pub map-end : length places ≤ t → out ≡ map f places
+  map-end l = sym (take-all t out (omega arith)) ∙ done ∙ ap (map f) (take-all t places l)

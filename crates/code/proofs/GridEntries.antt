@@ -129,57 +129,67 @@ module _ (q : ℕ) (pos : 0 < q) (n m : ℕ) where
                 ∙ ap (λ (v : ℕ). getD grid v 0) (entry-of-weight q pos e)
           ]
 
--- a turn of the loops over the weights, at w with and without a term
-module _ (q n : ℕ) (message grid : List ℕ) (w k : ℕ) (e : grid ≡ scatterBelow q n message w) (h : k ≡ rank q w) where
-  pub scatter-turn : w % q ≤ w / q → set grid (w - q * (w % q)) (getD message k 0) ≡ scatterBelow q n message (w + 1)
-  scatter-turn l =
-      rw (e, h, add-one w) (sym (scatter-term q n message w (le-leb (w % q) (w / q) l)))
+-- ---- turns of the loops over the weights: i and j are w divided by q, with its remainder, as the code has them
 
-  pub scatter-skip : w / q < w % q → grid ≡ scatterBelow q n message (w + 1)
-  scatter-skip l = rw (add-one w) (e ∙ sym (scatter-none q n message w (lt-leb (w % q) (w / q) l)))
+abbrev pub Split : ℕ → ℕ → ℕ → ℕ → Type 0
+Split q w i j = (i ≡ w / q) × (j ≡ w % q)
 
-module _ (q w k : ℕ) (h : k ≡ rank q w) where
-  pub rank-turn : w % q ≤ w / q → k + 1 ≡ rank q (w + 1)
-  rank-turn l = rw (add-one w, add-one k) (ap suc h ∙ sym (place-true (isTerm q) w (le-leb (w % q) (w / q) l)))
+is-term : (q w i j : ℕ) → Split q w i j → j ≤ i → isTerm q w ≡ true
+is-term q w i j d l = le-leb (w % q) (w / q) (omega (arith, d .0, d .1))
 
-  pub rank-skip : w / q < w % q → k ≡ rank q (w + 1)
-  rank-skip l = rw (add-one w) (h ∙ sym (place-false (isTerm q) w (lt-leb (w % q) (w / q) l)))
+no-term : (q w i j : ℕ) → Split q w i j → i < j → isTerm q w ≡ false
+no-term q w i j d l = lt-leb (w % q) (w / q) (omega (arith, d .0, d .1))
+
+module _ (q n : ℕ) (message grid : List ℕ) (w k i j : ℕ) (d : Split q w i j) (e : grid ≡ scatterBelow q n message w) (h : k ≡ rank q w) where
+  pub scatter-turn : j ≤ i → set grid (w - q * j) (getD message k 0) ≡ scatterBelow q n message (w + 1)
+  scatter-turn l = rw (e, h, d .1, add-one w) (sym (scatter-term q n message w (is-term q w i j d l)))
+
+  pub scatter-skip : i < j → grid ≡ scatterBelow q n message (w + 1)
+  scatter-skip l = rw (add-one w) (e ∙ sym (scatter-none q n message w (no-term q w i j d l)))
+
+module _ (q w k i j : ℕ) (d : Split q w i j) (h : k ≡ rank q w) where
+  pub rank-turn : j ≤ i → k + 1 ≡ rank q (w + 1)
+  rank-turn l = rw (add-one w, add-one k) (ap suc h ∙ sym (place-true (isTerm q) w (is-term q w i j d l)))
+
+  pub rank-skip : i < j → k ≡ rank q (w + 1)
+  rank-skip l = rw (add-one w) (h ∙ sym (place-false (isTerm q) w (no-term q w i j d l)))
+
+  -- a term's index is within the message
+  pub rank-lt : (m : ℕ) → w ≤ m → j ≤ i → k < size q m
+  rank-lt m a l = rw h (place-lt (isTerm q) w (suc m) (is-term q w i j d l) (omega arith))
 
 pub rank-zero : (q : ℕ) → 0 ≡ rank q 0
 unfolding passing
 rank-zero q = refl
 
--- a term's place is within the message
-pub rank-lt : (q m w : ℕ) → w ≤ m → w % q ≤ w / q → rank q w < size q m
-rank-lt q m w l t = place-lt (isTerm q) w (suc m) (le-leb (w % q) (w / q) t) (omega arith)
+pub entry-le : (q w i j : ℕ) → Split q w i j → j ≤ i → q * j ≤ w
+entry-le q w i j d l = omega (arith, ap (λ (x : ℕ). q * x) (d .0), ap (λ (x : ℕ). q * x) (d .1), mul-le-mul-left q l, div-add-mod w q)
 
-pub entry-le : (q w : ℕ) → w % q ≤ w / q → q * (w % q) ≤ w
-entry-le q w t = omega (arith, mul-le-mul-left q t, div-add-mod w q)
-
--- a turn of the loop that gathers
 abbrev pub gathered : ℕ → List ℕ → ℕ → List ℕ
 gathered q grid w = map (λ v. getD grid (entryOf q v) 0) (passing (isTerm q) w)
 
-module _ (q : ℕ) (grid message : List ℕ) (w k : ℕ) (e : take k message ≡ gathered q grid w) where
-  pub gather-turn : k < length message → w % q ≤ w / q → take (k + 1) (set message k (getD grid (w - q * (w % q)) 0)) ≡ gathered q grid (w + 1)
+module _ (q : ℕ) (grid message : List ℕ) (w k i j : ℕ) (d : Split q w i j) (e : take k message ≡ gathered q grid w) where
+  pub gather-turn : k < length message → j ≤ i → take (k + 1) (set message k (getD grid (w - q * j) 0)) ≡ gathered q grid (w + 1)
   gather-turn l t =
       rw (
         add-one w,
         add-one k,
-        take-suc-set message k (getD grid (w - q * (w % q)) 0) l,
+        take-suc-set message k (getD grid (w - q * j) 0) l,
         e,
-        passing-true (isTerm q) w (le-leb (w % q) (w / q) t),
+        d .1,
+        passing-true (isTerm q) w (is-term q w i j d t),
       )
       (sym (map-append (λ v. getD grid (entryOf q v) 0) (passing (isTerm q) w) (w ∷ [])))
 
-  pub gather-skip : w / q < w % q → take k message ≡ gathered q grid (w + 1)
-  gather-skip t = rw (add-one w, passing-false (isTerm q) w (lt-leb (w % q) (w / q) t)) e
-
-  pub gather-end : (m : ℕ) → w ≡ m + 1 → k ≡ rank q w → length message ≡ size q m → message ≡ gather q m grid
-  unfolding gather
-  gather-end m a b h =
-      sym (take-all k message (omega (arith, b, h, ap (rank q) a, ap (rank q) (add-one m)))) ∙ e ∙ ap (gathered q grid) (a ∙ add-one m)
+  pub gather-skip : i < j → take k message ≡ gathered q grid (w + 1)
+  gather-skip t = rw (add-one w, passing-false (isTerm q) w (no-term q w i j d t)) e
 
 pub gather-start : (q : ℕ) (grid message : List ℕ) → take 0 message ≡ gathered q grid 0
 unfolding passing
 gather-start q grid message = refl
+
+pub gather-end : (q : ℕ) (grid message : List ℕ) (w k : ℕ) → take k message ≡ gathered q grid w → (m : ℕ) → w ≡ m + 1 → k ≡ rank q w
+    → length message ≡ size q m → message ≡ gather q m grid
+unfolding gather
+gather-end q grid message w k e m a b h =
+    sym (take-all k message (omega (arith, b, h, ap (rank q) a, ap (rank q) (add-one m)))) ∙ e ∙ ap (gathered q grid) (a ∙ add-one m)

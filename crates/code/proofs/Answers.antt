@@ -1,0 +1,53 @@
+-- Entries: what is answered where the checks refuse, and where they come out Done.
+-- Assumes nothing.
+use mathlib.Core.Bool.{Bool, true, false, cond}
+use mathlib.Core.List.{List}
+use mathlib.Core.Logic.{_⊎_, inl, inr, ⊎-elim}
+use mathlib.Core.Path.{_≡_, refl, sym, ap, _∙_}
+use Prim.Native.Nat.{ℕ}
+use native.Mathlib.Omega.{arith}
+use lib.Dec.{eqb}
+use lib.ListN.{length}
+use types.Run.{OneOf}
+use denote.Enum.Declared.{tagOf}
+use Rattle.field.specs.Outcomes.{number}
+use Rattle.field.specs.declared.outcome.Outcome.{Outcome}
+use Rattle.field.specs.declared.outcome.Outcome.the-variants.{Done}
+use Rattle.field.proofs.Outcomes.{refusals, not-done}
+use Rattle.field.proofs.outcome.Outcome.{the-type}
+use Rattle.code.specs.Checks.{orderChecks, sliceChecks}
+use Rattle.code.specs.Answers.{Answer, answered, unlessRefused}
+use Rattle.code.proofs.Checks.{order-follows, slices-follow}
+
+-- a refusal, as the arm that returns it is told of it
+abbrev pub Refused : Outcome → Type 0
+Refused o = OneOf refusals (tagOf the-type o)
+
+refused : (checked o : Outcome) (slice : List ℕ) (answer : Answer) → checked ≡ o → eqb (number o) 0 ≡ false → unlessRefused checked slice answer ≡ answered o slice
+refused checked o slice answer e n = ap (λ (x : Outcome). unlessRefused x slice answer) e ∙ ap (λ (b : Bool). cond b answer (answered o slice)) n
+
+done-or-not : (o : Outcome) → o ≡ Done → eqb (number o) 0 ≡ false → ⊥
+done-or-not o e n = let f : _≡_ {A = Bool} true false = sym (ap (λ (x : Outcome). eqb (number x) 0) e) ∙ n in let z : _≡_ {A = ℕ} 0 1 = cc in omega arith
+
+module _ (q m : ℕ) (o : Outcome) (e : o ≡ orderChecks q m Done) (slice : List ℕ) (answer : Answer) where
+  -- checks 1 and 2 refuse
+  pub refused-order : (rest : Outcome) → Refused o → unlessRefused (orderChecks q m rest) slice answer ≡ answered o slice
+  refused-order rest r =
+      ⊎-elim (λ d. absurd (done-or-not o (d .0) (not-done o r))) (λ d. refused (orderChecks q m rest) o slice answer (d .1) (d .0))
+      (order-follows q m o rest (sym e))
+
+  module _ (d : o ≡ Done) (gaps : Bool) (Q takes : ℕ) (input : List ℕ) (writes room : ℕ) (p : Outcome) (f : p ≡ sliceChecks gaps Q takes input writes room Done) where
+    past-order : (rest : Outcome) → orderChecks q m rest ≡ rest
+    past-order rest =
+        ⊎-elim (λ h. h .1) (λ h. absurd (done-or-not o d (h .0))) (order-follows q m o rest (sym e))
+
+    abbrev checked : Outcome
+    checked = orderChecks q m (sliceChecks gaps Q takes input writes room Done)
+
+    -- checks 3, 4 and 5 refuse
+    pub refused-slices : Refused p → unlessRefused (orderChecks q m (sliceChecks gaps Q takes input writes room Done)) slice answer ≡ answered p slice
+    refused-slices r = refused checked p slice answer (past-order (sliceChecks gaps Q takes input writes room Done) ∙ sym f) (not-done p r)
+
+    -- none does
+    pub accepted : p ≡ Done → unlessRefused (orderChecks q m (sliceChecks gaps Q takes input writes room Done)) slice answer ≡ answer
+    accepted g = ap (λ (x : Outcome). unlessRefused x slice answer) (past-order (sliceChecks gaps Q takes input writes room Done) ∙ sym f ∙ g)

@@ -1,0 +1,55 @@
+-- The full ascending list of columns; and what the checks say of a call over it.
+-- Assumes nothing.
+use mathlib.Core.Bool.{true, false}
+use mathlib.Core.List.{List}
+use mathlib.Core.Path.{_≡_, refl, sym, ap, _∙_}
+use Prim.Native.Nat.{ℕ, zero, suc, _+_, _*_, _≤_, _<_}
+use native.Mathlib.Decide.{decLt}
+use native.Mathlib.Omega.{arith}
+use lib.ListN.{length, getD, List·getD-eq-default}
+use Rattle.field.specs.Curve.{IsCurve}
+use Rattle.field.proofs.Fields.{fieldOf}
+use Rattle.field.proofs.FieldLaws.{zero-lt}
+use Rattle.field.proofs.Curves.{sizes}
+use Rattle.poly.specs.Ranges.{Below}
+use Rattle.code.specs.Passing.{passing, upTo}
+use Rattle.code.specs.Points.{columnsOf}
+use Rattle.code.specs.Terms.{size}
+use Rattle.code.specs.Columns.{Columns}
+use Rattle.code.specs.Encodable.{Encodable}
+use Rattle.code.proofs.Passing.{place-true, at-place, nodup-passing}
+use Rattle.code.proofs.Checks.{Accepted, symbol-of-good}
+
+pub length-upTo : (n : ℕ) → length (upTo n) ≡ n
+unfolding passing
+length-upTo zero = refl
+length-upTo (suc n) = place-true (λ i. true) n refl ∙ ap suc (length-upTo n)
+
+pub full-columns : (q : ℕ) → IsCurve q → Columns q (columnsOf q)
+full-columns q curve =
+    record {
+      curve = curve;
+      small = λ t l. at-place (λ i. true) (q * q) t l .0;
+      distinct = nodup-passing (λ i. true) (q * q);
+    }
+
+-- the values of an accepted message or whole word are symbols
+pub accepted-symbols : (q : ℕ) → IsCurve q → (takes : ℕ) (input : List ℕ) (writes room : ℕ) → Accepted false (q * q) takes input writes room → Below (fieldOf q .size) input
+accepted-symbols q curve takes input writes room h i = elim (decLt i (length input)) [
+  | yes l ↦ omega (arith, symbol-of-good (q * q) (getD input i 0) (h .good i l), sizes q curve .size)
+  | no d ↦ rw (List·getD-eq-default input 0 {n = i} (omega arith)) (zero-lt (fieldOf q))
+]
+
+pub encodable : (q m : ℕ) (message word : List ℕ) → IsCurve q → m < q * q * q → Accepted false (q * q) (size q m) message (q * q * q) (length word)
+    → Encodable q (columnsOf q) m message word
+encodable q m message word curve l h =
+    let z = sizes q curve in
+    let n : q * length (columnsOf q) ≡ q * q * q = ap (λ (x : ℕ). q * x) (length-upTo (q * q)) ∙ z .grid in
+    record {
+      over = full-columns q curve;
+      few = omega (arith, length-upTo (q * q), z .symbols);
+      order = omega arith;
+      long = h .long;
+      symbols = accepted-symbols q curve (size q m) message (q * q * q) (length word) h;
+      room = h .fits ∙ sym n;
+    }

@@ -1,0 +1,47 @@
+-- The table of the y of all columns: its rule from one computed test.
+-- Assumes nothing.
+use mathlib.Core.List.{List}
+use mathlib.Core.Path.{_≡_, refl, sym, ap, ap₂, _∙_}
+use Prim.Native.Nat.{ℕ, _+_, _-_, _*_, _/_, _%_, _≤_, _<_}
+use native.Mathlib.Nat.{mul-suc, mul-le-mul-left}
+use native.Mathlib.Omega.{arith}
+use lib.Dec.{T}
+use lib.ListN.{length, getD, take}
+use lib.Seq.{ext-getD}
+use Rattle.field.specs.Curve.{IsCurve}
+use Rattle.field.proofs.Table.{agrees, entry}
+use Rattle.field.proofs.Curves.{each-curve, sizes}
+use Rattle.poly.specs.Ranges.{part}
+use Rattle.poly.proofs.Parts.{part-at, length-part}
+use Rattle.code.specs.Passing.{passing, upTo}
+use Rattle.code.specs.Points.{ysOf}
+use Rattle.code.specs.Columns.{Ys}
+use Rattle.code.proofs.Columns.{length-ys}
+use Rattle.code.proofs.Weights.{quotient, remainder}
+
+-- the y at place p
+abbrev pub yAt : ℕ → ℕ → ℕ
+yAt q p = getD (ysOf q (p / q)) (p % q) 0
+
+pub ys-table : (q : ℕ) → IsCurve q → (list : List ℕ) → length list ≡ 64 → T (agrees (yAt q) 0 (q * q * q) list) → Ys q list
+ys-table q curve list long test = record { long = long; column = column }
+  where
+    within : (x : ℕ) → x < q * q → q * x + q ≤ q * q * q
+    within x l = omega (arith, sizes q curve .grid, mul-suc q x, mul-le-mul-left q l)
+
+    column : (x : ℕ) → x < q * q → part list (q * x) (q * x + q) ≡ ysOf q x
+    column x l =
+        let long-part : length (part list (q * x) (q * x + q)) ≡ q
+        = length-part list (q * x) (q * x + q) (omega arith) (omega (arith, within x l, sizes q curve .points)) ∙ omega arith in
+        let pos : 0 < q = omega (arith, sizes q curve .low) in
+        ext-getD 0 (part list (q * x) (q * x + q)) (ysOf q x) (long-part ∙ sym (length-ys q curve x l))
+        (λ t b.
+        let k : t < q = omega arith in
+        part-at list (q * x) (q * x + q) t (omega arith)
+        ∙ entry (yAt q) (q * q * q) list test (q * x + t) (omega (arith, within x l))
+        ∙ ap₂ (λ (u v : ℕ). getD (ysOf q u) v 0) (quotient q pos x t k) (remainder q pos x t k))
+
+-- the columns of each curve begin those of the larger
+pub columns-take : (q : ℕ) → IsCurve q → take (q * q) (upTo 16) ≡ upTo (q * q)
+unfolding passing
+columns-take = each-curve (λ q. take (q * q) (upTo 16) ≡ upTo (q * q)) refl refl

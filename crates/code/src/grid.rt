@@ -1,0 +1,66 @@
+// Messages laid out as grids: entry e is the coefficient of x^(e / q)·y^(e % q).
+ghost use mathlib.Core.Path.{_≡_};
+ghost use Prim.Native.Nat.{_≤_, _<_};
+ghost use lib.ListN.{length, replicate};
+ghost use Rattle.field.specs.Curve.{IsCurve};
+ghost use Rattle.code.specs.Terms.{size};
+ghost use Rattle.code.specs.Grid.{scatter, gather, orderAtMost};
+use crate::term;
+
+// Lays a message out in a grid of zeros.
+pub fn scatter(q: u8, m: usize, message: &[u8], grid: &mut [u8])
+    requires { ⌜ IsCurve q × (m < length (now grid)) × (size q m ≤ length (now message)) ⌝ }
+    requires { ⌜ now grid ≡ replicate (length (now grid)) 0 ⌝ }
+    ensures { λ _. ⌜ now (grid .exit) ≡ scatter q (length (now (grid .entry))) m (now (message .entry)) ⌝ }
+{
+    let width = q as usize;
+    let mut w = 0;
+    let mut n = 0;
+    while w <= m {
+        let d = term::divide(q, w);
+        if d.rest <= d.whole {
+            let e = w - width * d.rest;
+            grid[e] = message[n];
+            n += 1;
+        }
+        w += 1;
+    }
+}
+
+// The message of a grid.
+pub fn gather(q: u8, m: usize, grid: &[u8], message: &mut [u8])
+    requires { ⌜ IsCurve q × (m < length (now grid)) × (length (now message) ≡ size q m) ⌝ }
+    ensures { λ _. ⌜ now (message .exit) ≡ gather q m (now (grid .entry)) ⌝ }
+{
+    let width = q as usize;
+    let mut w = 0;
+    let mut n = 0;
+    while w <= m {
+        let d = term::divide(q, w);
+        if d.rest <= d.whole {
+            let e = w - width * d.rest;
+            message[n] = grid[e];
+            n += 1;
+        }
+        w += 1;
+    }
+}
+
+// Whether a grid has no coefficient of a weight above m.
+pub fn order_at_most(q: u8, m: usize, grid: &[u8]) -> bool
+    requires { ⌜ IsCurve q × (length (now grid) ≤ 512) ⌝ }
+    ensures { λ r. ⌜ r ≡ orderAtMost q m (length (now (grid .entry))) (now (grid .entry)) ⌝ }
+{
+    let width = q as usize;
+    let mut e = 0;
+    while e < grid.len() {
+        let d = term::divide(q, e);
+        if m < e + width * d.rest {
+            if grid[e] != 0 {
+                return false;
+            }
+        }
+        e += 1;
+    }
+    true
+}

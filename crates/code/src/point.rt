@@ -1,0 +1,47 @@
+// The points of the curves, column by column.
+ghost use mathlib.Core.Path.{_≡_};
+ghost use Rattle.field.specs.Curve.{IsCurve};
+ghost use Rattle.code.specs.Passing.{upTo};
+ghost use Rattle.code.specs.Columns.{Ys};
+
+// The y of each column, ascending, column by column.
+const YS_2: [u8; 64] = *b"\
+    \x00\x01\x02\x03\x02\x03\x02\x03\x00\x00\x00\x00\x00\x00\x00\x00\
+    \x00\x00\x00\x00\x00\x00\x00\x00\x00\x00\x00\x00\x00\x00\x00\x00\
+    \x00\x00\x00\x00\x00\x00\x00\x00\x00\x00\x00\x00\x00\x00\x00\x00\
+    \x00\x00\x00\x00\x00\x00\x00\x00\x00\x00\x00\x00\x00\x00\x00\x00";
+
+const YS_4: [u8; 64] = *b"\
+    \x00\x01\x06\x07\x02\x03\x04\x05\x0a\x0b\x0c\x0d\x0a\x0b\x0c\x0d\
+    \x08\x09\x0e\x0f\x08\x09\x0e\x0f\x08\x09\x0e\x0f\x0a\x0b\x0c\x0d\
+    \x02\x03\x04\x05\x08\x09\x0e\x0f\x02\x03\x04\x05\x0a\x0b\x0c\x0d\
+    \x02\x03\x04\x05\x0a\x0b\x0c\x0d\x08\x09\x0e\x0f\x02\x03\x04\x05";
+
+const COLUMNS: [u8; 16] = [0, 1, 2, 3, 4, 5, 6, 7, 8, 9, 10, 11, 12, 13, 14, 15];
+
+fn ys_2() -> [u8; 64]
+    ensures { λ r. ⌜ Ys 2 r ⌝ }
+{
+    YS_2
+}
+
+fn ys_4() -> [u8; 64]
+    ensures { λ r. ⌜ Ys 4 r ⌝ }
+{
+    YS_4
+}
+
+// The y of the curve q.
+pub fn ys(q: u8) -> [u8; 64]
+    requires { ⌜ IsCurve q ⌝ }
+    ensures { λ r. ⌜ Ys q r ⌝ }
+{
+    if q == 2 { ys_2() } else { ys_4() }
+}
+
+// All columns of the larger curve, ascending; the smaller one's are the first of them.
+pub fn columns() -> [u8; 16]
+    ensures { λ r. ⌜ r ≡ upTo 16 ⌝ }
+{
+    COLUMNS
+}

@@ -5,7 +5,8 @@ use mathlib.Core.List.{List}
 use Prim.Native.Nat.{ℕ}
 use lib.Dec.{eqb}
 use lib.ListN.{length, getD}
-use Rattle.poly.specs.Lists.{every, filter}
+use Rattle.field.specs.Tests.{every}
+use Rattle.poly.specs.Lists.{filter}
 use Rattle.poly.specs.Messages.{all}
 
 -- `word` gives each message its word

@@ -9,15 +9,16 @@ use lib.Dec.{T, eqb, eqb→eq, lit≤}
 use lib.Pow.{pow-pos, pow-lt}
 use Rattle.field.specs.Field.{Field}
 use Rattle.field.specs.Curve.{bitsOf}
+use Rattle.field.specs.Tests.{every}
 use Rattle.field.specs.Product.{times, inverse}
 use Rattle.field.proofs.Product.{times-lt, times-plus, times-comm, times-assoc, times-one}
 use Rattle.field.proofs.Plus.{plus-lt}
-use Rattle.field.proofs.Search.{allBelow, below, lastBelow-lt}
+use Rattle.field.proofs.Search.{of-every, lastBelow-lt}
 
 -- each element but 0 has an inverse
 unfoldable pub invertible : ℕ → Bool
-unfolding inverse
-invertible e = allBelow (2 ^ e - 1) (λ a. eqb (times e (suc a) (inverse e (suc a))) 1)
+unfolding inverse every
+invertible e = every (2 ^ e - 1) (λ a. eqb (times e (suc a) (inverse e (suc a))) 1)
 
 pub inverse-lt : (e a : ℕ) → inverse e a < 2 ^ e
 unfolding inverse
@@ -28,7 +29,7 @@ unfolding invertible
 times-inverse e t zero h ne = absurd (ne refl)
 times-inverse e t (suc a) h ne =
     eqb→eq (times e (suc a) (inverse e (suc a))) 1
-    (below (λ a. eqb (times e (suc a) (inverse e (suc a))) 1) (2 ^ e - 1) t a (omega arith))
+    (of-every (2 ^ e - 1) (λ a. eqb (times e (suc a) (inverse e (suc a))) 1) t a (omega arith))
 
 abbrev pub binaryField : (e : ℕ) → 2 ≤ e → T (invertible e) → Field
 binaryField e two t =

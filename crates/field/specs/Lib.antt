@@ -1,4 +1,5 @@
 pub mod Plus
+pub mod Tests
 pub mod Product
 pub mod Field
 pub mod Power

@@ -12,7 +12,8 @@ use native.Mathlib.Omega.{arith}
 use lib.Dec.{T, eqb, eqb→eq, eqb-refl, not-T, T-not}
 use lib.ListN.{length}
 use Rattle.poly.specs.Lists.{oneIf, Nodup, count, below}
-use Rattle.poly.proofs.Bools.{both, parts}
+use Rattle.field.proofs.Search.{both}
+use Rattle.poly.proofs.Bools.{parts}
 use Rattle.poly.proofs.Lists.{oneIf-le, oneIf-mono, oneIf-true, oneIf-false, count-cong}
 
 pub length-below : (n : ℕ) → length (below n) ≡ n

@@ -1,7 +1,7 @@
 -- Tests and their values.
 -- Assumes nothing.
 use mathlib.Core.Path.{_≡_, refl}
-use mathlib.Core.Bool.{Bool, true, false, _&&_, _||_}
+use mathlib.Core.Bool.{Bool, true, false, not, _&&_, _||_}
 use mathlib.Core.Logic.{_⊎_, inl, inr}
 use lib.Dec.{T}
 
@@ -16,10 +16,6 @@ T-true false h = absurd h
 pub T-dec : (a : Bool) → Dec (T a)
 T-dec true = yes tt
 T-dec false = no λ h. h
-
-pub both : (a b : Bool) → T a → T b → T (a && b)
-both true b h k = k
-both false b h k = h
 
 pub parts : (a b : Bool) → T (a && b) → T a × T b
 parts true b h = (tt, h)
@@ -45,3 +41,12 @@ same-test true true f g = refl
 same-test true false f g = absurd (f tt)
 same-test false true f g = absurd (g tt)
 same-test false false f g = refl
+
+-- a test that is passed where another is
+pub implies : (a b : Bool) → (T a → T b) → T (not a || b)
+implies true b h = h tt
+implies false b h = tt
+
+pub implied : (a b : Bool) → T (not a || b) → T a → T b
+implied true b h k = h
+implied false b h k = absurd k

@@ -1,31 +1,17 @@
--- The elements that a filter keeps, and tests of all numbers below a bound.
+-- The elements that a filter keeps.
 -- Assumes nothing.
 use mathlib.Core.Path.{_≡_, refl}
 use mathlib.Core.Logic.{_↔_, _⊎_, inl, inr}
 use mathlib.Core.Bool.{Bool, true, false, cond}
 use mathlib.Core.List.{List, [], _∷_, List·Memᴰ as Mem, List·Memᴰ·head as head, List·Memᴰ·tail as tail}
 use mathlib.Core.List.{List·Memᴰ·cases-cons as cases-cons, List·Memᴰ·not-nil as not-nil}
-use Prim.Native.Nat.{ℕ, zero, suc, _+_, _<_}
-use native.Mathlib.Nat.{le-refl}
-use native.Mathlib.Decide.{ℕ-discrete}
+use Prim.Native.Nat.{ℕ, _+_}
 use native.Mathlib.Omega.{arith}
 use lib.Dec.{T}
 use lib.ListN.{length}
-use Rattle.poly.specs.Lists.{oneIf, Nodup, count, filter, every}
-use Rattle.poly.proofs.Bools.{both, parts, same-test}
+use Rattle.poly.specs.Lists.{oneIf, Nodup, count, filter}
+use Rattle.poly.proofs.Bools.{same-test}
 use Rattle.poly.proofs.Lists.{count-cong}
-
-pub of-every : (n : ℕ) (p : ℕ → Bool) → T (every n p) → (i : ℕ) → i < n → T (p i)
-unfolding every
-of-every zero p t i l = absurd (omega arith)
-of-every (suc n) p t i l =
-    let w = parts (p n) (every n p) t in
-    elim (ℕ-discrete i n) [ yes e ↦ rw e (w .0) | no d ↦ of-every n p (w .1) i (omega arith) ]
-
-pub to-every : (n : ℕ) (p : ℕ → Bool) → ((i : ℕ) → i < n → T (p i)) → T (every n p)
-unfolding every
-to-every zero p h = tt
-to-every (suc n) p h = both (p n) (every n p) (h n (le-refl (suc n))) (to-every n p (λ i l. h i (omega arith)))
 
 module _ {A : Type 0} where
   pub mem-filter : (p : A → Bool) (x : A) (xs : List A) → Mem x xs → T (p x) → Mem x (filter p xs)

@@ -16,3 +16,15 @@ pub mod OrderValues
 pub mod OrderZeros
 pub mod OrderInterpolation
 pub mod Blocks
+pub mod Bringing
+pub mod Dimension
+pub mod Homogeneous
+pub mod Insertion
+pub mod Linear
+pub mod Placement
+pub mod Reduction
+pub mod Rows
+pub mod Solutions
+pub mod Substitution
+pub mod Triangular
+pub mod WellFormed

@@ -8,7 +8,8 @@ use native.Mathlib.Nat.{add-suc, add-comm, add-sub-cancel-left}
 use native.Mathlib.Omega.{arith}
 use lib.Dec.{T, leb, leb→le, le→leb}
 use Rattle.poly.specs.Lists.{oneIf, count, below}
-use Rattle.poly.proofs.Bools.{T-true, both, parts}
+use Rattle.field.proofs.Search.{both}
+use Rattle.poly.proofs.Bools.{T-true, parts}
 use Rattle.poly.proofs.Below.{count-mono, count-add-le}
 
 module _ (s : ℕ → Bool) (w : ℕ) where

@@ -12,7 +12,8 @@ use Rattle.field.specs.Field.{Field}
 use Rattle.field.proofs.Plus.{plus-assoc, plus-left-comm, plus-zero, plus-self}
 use Rattle.field.proofs.FieldLaws.{zero-times, plus-times}
 use Rattle.poly.specs.Lists.{oneIf, count, below}
-use Rattle.poly.proofs.Bools.{both, parts}
+use Rattle.field.proofs.Search.{both}
+use Rattle.poly.proofs.Bools.{parts}
 use Rattle.poly.proofs.Below.{Among, among-suc, among-wider, none-below, count-except, other, other-is, other-ne}
 use Rattle.poly.proofs.Keep.{keep, keep-pass, keep-zero, keep-le}
 use Rattle.poly.proofs.Span.{Span, Linear, span-agree, span-none, span-empty, span-single, span-map, span-bind}

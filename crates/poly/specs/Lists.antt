@@ -1,5 +1,5 @@
 -- Lists as finite sets: lists with no element twice, and the number of elements that pass a test.
-use mathlib.Core.Bool.{Bool, true, false, _&&_, cond}
+use mathlib.Core.Bool.{Bool, true, false, cond}
 use mathlib.Core.List.{List, [], _∷_, List·Memᴰ as Mem}
 use Prim.Native.Nat.{ℕ, zero, suc, _+_}
 
@@ -33,8 +33,3 @@ below (suc n) = n ∷ below n
 unfoldable pub filter : {A : Type 0} → (A → Bool) → List A → List A
 filter p [] = []
 filter p (x ∷ xs) = cond (p x) (x ∷ filter p xs) (filter p xs)
-
--- every number below n passes the test p
-unfoldable pub every : ℕ → (ℕ → Bool) → Bool
-every zero p = true
-every (suc n) p = p n && every n p

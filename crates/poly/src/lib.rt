@@ -1,2 +1,3 @@
 // Lists of symbols: polynomials and linear systems over the field of a curve's number q. Nothing here knows of the curve.
 pub mod polynomial;
+pub mod system;

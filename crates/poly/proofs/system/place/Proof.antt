@@ -1,0 +1,92 @@
+-- `poly::system::place` meets its contract.
+-- Assumes nothing.
+use mathlib.Core.Path.{ap, _∙_}
+use mathlib.Core.List.{List}
+use Prim.Native.Nat.{ℕ, _+_, _*_, _≤_}
+use native.Mathlib.Omega.{arith}
+use lib.ListN.{length}
+use Rattle.field.proofs.Fields.{fieldOf, inverse-lt}
+use Rattle.poly.specs.Ranges.{part, put}
+use Rattle.poly.specs.Rows.{stored, scaled, divided, placed}
+use Rattle.poly.proofs.Parts.{put-is}
+use Rattle.poly.proofs.WellFormed.{row-fits}
+use borrow.Author.Needs.{needs}
+use Rattle.poly.proofs.system.place.Statement.{statement}
+use Rattle.poly.proofs.system.place.Tie as tie
+
+-- row i is within work
+fits : (s : tie.Start) → s .args .i * s .args .stride + s .args .stride ≤ length (s .args .work .now)
+fits s = row-fits _ (s .args .stride) (s .args .k) (s .args .work .now) (s .pre .0 .0) (s .args .i) (s .pre .1 .0)
+
+slice-read-inverse : tie.Need-slice-read-inverse
+slice-read-inverse c = search needs
+
+inverse-requires : tie.Need-inverse-requires
+inverse-requires c κs =
+    let s = c .before .before .before in
+    (s .pre .0 .1 .symbols (s .args .i) (omega arith), s .pre .1 .1)
+
+add-n : tie.Need-add-n
+add-n c = search needs
+
+scale-requires : tie.Need-scale-requires
+scale-requires c κs =
+    let s = c .before .before .before .before .before in
+    (omega (arith, s .pre .0 .1 .long), (rw (c .before .inverse .ensures) (inverse-lt _ _), λ j h. s .pre .0 .1 .symbols j (omega arith)))
+
+mul-base : tie.Need-mul-base
+mul-base c = omega (arith, fits (c .before .before .before .before .before .before .before .before))
+
+add-end : tie.Need-add-end
+add-end c = omega (arith, fits (c .before .before .before .before .before .before .before .before))
+
+sub-store : tie.Need-sub-store
+sub-store c = search needs
+
+part-store-start : tie.Need-part-store-start
+part-store-start c = search needs
+
+part-store-end : tie.Need-part-store-end
+part-store-end c = omega (arith, fits (c .before .before .before .before .before .before .before .before .before))
+
+store-requires : tie.Need-store-requires
+store-requires c κs = search needs
+
+same-length : tie.Need-same-length
+same-length c = search needs
+
+same-length-2 : tie.Need-same-length-2
+same-length-2 c = search needs
+
+returns : tie.Need-returns
+unfolding placed divided
+returns c =
+    let s = c .before .before .before .before .before .before .before .before .before .before .before .before .before in
+    let w : List ℕ = s .args .work .now in
+    let base : ℕ = s .args .i * s .args .stride in
+    let end : ℕ = base + s .args .stride in
+    let n : ℕ = s .args .k + 1 in
+    put-is w base end _ (omega arith)
+    ∙ ap (put w base end)
+    (c .before .before .store .ensures
+    ∙ ap (λ (r : List ℕ). stored n r (part w base end))
+    (c .before .before .before .before .before .before .before .scale .ensures
+    ∙ ap (λ (x : ℕ). scaled (fieldOf (s .args .q)) x n (s .args .row .now)) (c .before .before .before .before .before .before .before .before .before .inverse .ensures)))
+
+pub place-spec : {M : Type 1} → statement M
+place-spec =
+    tie.close
+    (tie.spec
+    slice-read-inverse
+    inverse-requires
+    add-n
+    scale-requires
+    mul-base
+    add-end
+    sub-store
+    part-store-start
+    part-store-end
+    store-requires
+    same-length
+    same-length-2
+    returns)

@@ -25,6 +25,9 @@ module _ (F : Field) where
   pub times-left-comm : (a b c : ℕ) → times a (times b c) ≡ times b (times a c)
   times-left-comm a b c = sym (times-assoc a b c) ∙ ap (λ (x : ℕ). times x c) (times-comm a b) ∙ times-assoc b a c
 
+  pub times-exchange : (a b c d : ℕ) → times (times a b) (times c d) ≡ times (times a c) (times b d)
+  times-exchange a b c d = times-assoc a b (times c d) ∙ ap (times a) (times-left-comm b c d) ∙ sym (times-assoc a c (times b d))
+
   pub times-one-right : (a : ℕ) → a < size → times a 1 ≡ a
   times-one-right a l = times-comm a 1 ∙ times-one a l
 
@@ -36,8 +39,11 @@ module _ (F : Field) where
   times-cancel a b l n k =
       sym (times-assoc (inverse a) a b) ∙ ap (λ (x : ℕ). times x b) (inverse-times a l n) ∙ times-one b k
 
+  pub zero-of-times : (a b : ℕ) → a < size → (a ≡ 0 → ⊥) → b < size → times a b ≡ 0 → b ≡ 0
+  zero-of-times a b l n k e = sym (times-cancel a b l n k) ∙ ap (times (inverse a)) e ∙ times-zero (inverse a)
+
   pub times-ne-zero : (a b : ℕ) → a < size → b < size → (a ≡ 0 → ⊥) → (b ≡ 0 → ⊥) → times a b ≡ 0 → ⊥
-  times-ne-zero a b al bl an bn e = bn (sym (times-cancel a b al an bl) ∙ ap (times (inverse a)) e ∙ times-zero (inverse a))
+  times-ne-zero a b al bl an bn e = bn (zero-of-times a b al an bl e)
 
   pub inverse-ne-zero : (a : ℕ) → a < size → (a ≡ 0 → ⊥) → inverse a ≡ 0 → ⊥
   inverse-ne-zero a l n e =

@@ -6,7 +6,7 @@ use native.Mathlib.Nat.{zero-add, suc-add}
 use native.Mathlib.Numerals.{add-one}
 use Rattle.field.specs.Field.{Field}
 use Rattle.field.specs.Power.{power}
-use Rattle.field.proofs.FieldLaws.{times-one-right}
+use Rattle.field.proofs.FieldLaws.{times-exchange, times-one-right}
 
 module _ (F : Field) where
   pub power-zero : (a : ℕ) → power F a 0 ≡ 1
@@ -33,3 +33,8 @@ module _ (F : Field) where
   power-add a zero n = ap (power F a) (zero-add n) ∙ sym (F .times-one (power F a n) (power-lt a n))
   power-add a (suc m) n =
       ap (power F a) (suc-add m n) ∙ ap (F .times a) (power-add a m n) ∙ sym (F .times-assoc a (power F a m) (power F a n))
+
+  pub power-times : (a b n : ℕ) → power F (F .times a b) n ≡ F .times (power F a n) (power F b n)
+  unfolding power
+  power-times a b zero = sym (F .times-one 1 (F .two-le))
+  power-times a b (suc n) = ap (F .times (F .times a b)) (power-times a b n) ∙ times-exchange F a b (power F a n) (power F b n)

@@ -9,7 +9,10 @@ use lib.ListN.{length, getD, set, replicate, getD-replicate, length-replicate, L
 use lib.Seq.{getD-set-same, getD-set-other, set-out}
 use Rattle.poly.specs.Ranges.{Below}
 
-pub getD-zeros : (n i : ℕ) → getD {A = ℕ} (replicate n 0) i 0 ≡ 0
+abbrev pub zeros : ℕ → List ℕ
+zeros n = replicate n 0
+
+pub getD-zeros : (n i : ℕ) → getD (zeros n) i 0 ≡ 0
 getD-zeros n i =
     elim (decLt i n) [
       | yes l ↦ getD-replicate n i 0 0 l

@@ -1,4 +1,4 @@
--- Lists as finite sets: membership, no element twice, counting, and the pigeonhole principle.
+-- Lists as finite sets: membership, no element twice, elements by their places, counting, and the pigeonhole principle.
 -- Assumes nothing.
 use mathlib.Core.Path.{_≡_, refl, sym, ap, _∙_, subst}
 use mathlib.Core.Logic.{_⊎_, inl, inr}
@@ -7,11 +7,11 @@ use mathlib.Core.List.{List, [], _∷_, _++_, map, flatMap, List·Memᴰ as Mem,
 use mathlib.Core.List.{List·Memᴰ·cases-cons as cases-cons, List·Memᴰ·not-nil as not-nil, List·Memᴰ·append-cases as append-cases}
 use mathlib.Core.List.{Memᴰ·cast, Memᴰ·append-left, Memᴰ·append-right, Memᴰ·of-map}
 use Prim.Native.Nat.{ℕ, zero, suc, _+_, _*_, _≤_, _<_, zero-le, suc-le-suc}
-use native.Mathlib.Nat.{zero-add, zero-mul, suc-mul, add-mul}
+use native.Mathlib.Nat.{zero-add, suc-add, zero-mul, suc-mul, add-mul}
 use native.Mathlib.Omega.{arith}
 use lib.Dec.{T, not-T}
 use lib.ListN.{length, getD, length-append}
-use Rattle.poly.specs.Lists.{oneIf, Nodup, count}
+use Rattle.poly.specs.Lists.{oneIf, Nodup, count, without}
 
 pub oneIf-le : (b : Bool) → oneIf b ≤ 1
 oneIf-le true = omega arith
@@ -143,6 +143,44 @@ module _ {A : Type 0} where
   nodup-getD (x ∷ xs) d n zero (suc j) h k e = absurd (n .0 (Memᴰ·cast e (mem-getD xs d j (omega arith))))
   nodup-getD (x ∷ xs) d n (suc i) zero h k e = absurd (n .0 (Memᴰ·cast (sym e) (mem-getD xs d i (omega arith))))
   nodup-getD (x ∷ xs) d n (suc i) (suc j) h k e = ap suc (nodup-getD xs d (n .1) i j (omega arith) (omega arith) e)
+
+  -- what holds of the element at each place holds of each element
+  pub each-mem : (P : A → Type 0) (d : A) (l : List A) → ((i : ℕ) → i < length l → P (getD l i d)) → (x : A) → Mem x l → P x
+  each-mem P d [] h x m = absurd (not-nil m)
+  each-mem P d (y ∷ l) h x m = elim (cases-cons m) [
+    | inl e ↦ subst P (sym e) (h 0 (omega arith))
+    | inr k ↦ each-mem P d l (λ i b. h (suc i) (omega arith)) x k
+  ]
+
+  -- the list without its element t has the others, and where no element stands twice not that one
+  pub mem-without : (d : A) (l : List A) (i t : ℕ) → i < length l → (i ≡ t → ⊥) → Mem (getD l i d) (without l t)
+  mem-without d [] i t h n = absurd (omega arith)
+  mem-without d (x ∷ l) zero zero h n = absurd (n refl)
+  mem-without d (x ∷ l) zero (suc t) h n = head refl
+  mem-without d (x ∷ l) (suc i) zero h n = mem-getD l d i (omega arith)
+  mem-without d (x ∷ l) (suc i) (suc t) h n = tail (mem-without d l i t (omega arith) (λ e. n (ap suc e)))
+
+  pub nodup-without : (d : A) (l : List A) (t : ℕ) → Nodup l → t < length l → Mem (getD l t d) (without l t) → ⊥
+  nodup-without d [] t n h m = absurd (omega arith)
+  nodup-without d (x ∷ l) zero n h m = n .0 m
+  nodup-without d (x ∷ l) (suc t) n h m = elim (cases-cons m) [
+    | inl e ↦ n .0 (Memᴰ·cast (sym e) (mem-getD l d t (omega arith)))
+    | inr k ↦ nodup-without d l t (n .1) (omega arith) k
+  ]
+
+  pub length-without : (l : List A) (t : ℕ) → t < length l → suc (length (without l t)) ≡ length l
+  length-without [] t h = absurd (omega arith)
+  length-without (x ∷ l) zero h = refl
+  length-without (x ∷ l) (suc t) h = ap suc (length-without l t (omega arith))
+
+  pub without-left : (a b : List A) (t : ℕ) → t < length a → without (a ++ b) t ≡ without a t ++ b
+  without-left [] b t h = absurd (omega arith)
+  without-left (x ∷ a) b zero h = refl
+  without-left (x ∷ a) b (suc t) h = ap (λ (l : List A). x ∷ l) (without-left a b t (omega arith))
+
+  pub without-right : (a b : List A) (t : ℕ) → without (a ++ b) (length a + t) ≡ a ++ without b t
+  without-right [] b t = ap (without b) (zero-add t)
+  without-right (x ∷ a) b t = ap (without (x ∷ (a ++ b))) (suc-add (length a) t) ∙ ap (λ (l : List A). x ∷ l) (without-right a b t)
 
   -- a search through a list: an element with P, or Q of them all
   pub find : (P Q : A → Type 0) → ((x : A) → P x ⊎ Q x) → (xs : List A) → ((x : A) × Mem x xs × P x) ⊎ ((x : A) → Mem x xs → Q x)

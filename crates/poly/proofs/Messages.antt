@@ -78,6 +78,9 @@ vector-below q k v pos h i = elim (decLt i k) [
 pub vector-ext : (q n : ℕ) (v w : List ℕ) → Vector q n v → Vector q n w → ((i : ℕ) → i < n → getD v i 0 ≡ getD w i 0) → v ≡ w
 vector-ext q n v w hv hw e = ext-getD 0 v w (hv .len ∙ sym (hw .len)) (λ i l. e i (omega (arith, hv .len)))
 
+pub below-vector : (q n : ℕ) (v : List ℕ) → length v ≡ n → Below q v → Vector q n v
+below-vector q n v e b = record { len = e; small = λ i l. b i }
+
 pub length-all : (q k : ℕ) → length (all q k) ≡ q ^ k
 unfolding all
 length-all q zero = sym (pow-zero q)

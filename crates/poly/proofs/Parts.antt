@@ -1,15 +1,18 @@
--- Indices of a flat list of rows, and a part of a list that is lent and comes back.
+-- Indices of a flat list of rows, lists of numbers below n, and a part of a list that is lent and comes back.
 -- Assumes nothing.
-use mathlib.Core.Path.{_≡_, refl, sym, ap, _∙_}
-use mathlib.Core.List.{List, _++_}
+use mathlib.Core.Path.{_≡_, ap, _∙_}
+use mathlib.Core.List.{List, [], _∷_, _++_, List·Memᴰ as Mem}
 use Prim.Native.Nat.{ℕ, zero, suc, _+_, _-_, _*_, _≤_, _<_}
 use native.Mathlib.Nat.{suc-mul, mul-le-mul-right}
 use native.Mathlib.Decide.{decLt}
 use native.Mathlib.Omega.{arith}
 use lib.ListN.{length, getD, take, drop, length-take, length-drop, List·getD-eq-default, List·getD-append, length-append}
-use lib.Seq.{getD-take, getD-drop, length-take-le, getD-append-add}
+use lib.Seq.{take-all, getD-take, getD-drop, length-take-le, getD-append-add}
 use borrow.Rule.Slice.PartMut.{putMid, post-is}
+use Rattle.poly.specs.Lists.{below, without}
 use Rattle.poly.specs.Ranges.{Below, part, put}
+use Rattle.poly.proofs.Lists.{each-mem, mem-getD}
+use Rattle.poly.proofs.Below.{of-mem-below}
 
 -- row p ends before row i begins
 pub row-before : (p i stride : ℕ) → p < i → p * stride + stride ≤ i * stride
@@ -21,6 +24,10 @@ length-part l a e h k = length-take-le (e - a) (drop a l) (rw length-drop (omega
 pub part-at : (l : List ℕ) (a e j : ℕ) → a + j < e → getD (part l a e) j 0 ≡ getD l (a + j) 0
 part-at l a e j h = getD-take (e - a) (drop a l) j 0 (omega arith) ∙ getD-drop a l j 0
 
+-- a part up to the end
+pub part-rest : (l : List ℕ) (a : ℕ) → part l a (length l) ≡ drop a l
+part-rest l a = take-all (length l - a) (drop a l) (omega (arith, length-drop a l))
+
 pub below-part : (n : ℕ) (l : List ℕ) (a e : ℕ) → Below n l → Below n (part l a e)
 below-part n l a e h i = go (decLt i (e - a))
   where
@@ -29,6 +36,37 @@ below-part n l a e h i = go (decLt i (e - a))
     go (no z) =
         rw (List·getD-eq-default (part l a e) 0 {n = i} (rw length-take (omega arith)))
         (rw (List·getD-eq-default l 0 {n = length l} (omega arith)) at (h (length l)))
+
+-- ---- lists of numbers below n
+
+pub below-mem : (n : ℕ) (l : List ℕ) → 0 < n → ((x : ℕ) → Mem x l → x < n) → Below n l
+below-mem n l pos h i = elim (decLt i (length l)) [ yes k ↦ h (getD l i 0) (mem-getD l 0 i k) | no k ↦ rw (List·getD-eq-default l 0 {n = i} (omega arith)) pos ]
+
+pub mem-lt : (n : ℕ) (l : List ℕ) (x : ℕ) → Below n l → Mem x l → x < n
+mem-lt n l x h = each-mem (λ (v : ℕ). v < n) 0 l (λ i b. h i) x
+
+-- the list of all numbers below n
+pub below-below : (n : ℕ) → 0 < n → Below n (below n)
+below-below n pos = below-mem n (below n) pos (of-mem-below n)
+
+pub below-take : (n : ℕ) (l : List ℕ) (k : ℕ) → Below n l → Below n (take k l)
+below-take n l k h = let e : k - 0 ≡ k = omega arith in rw e at (below-part n l 0 k h)
+
+pub below-drop : (n : ℕ) (l : List ℕ) (k : ℕ) → Below n l → Below n (drop k l)
+below-drop n l k h i = rw (getD-drop k l i 0) (h (k + i))
+
+pub below-append : (n : ℕ) (a b : List ℕ) → Below n a → Below n b → Below n (a ++ b)
+below-append n [] b ha hb i = hb i
+below-append n (x ∷ a) b ha hb zero = ha 0
+below-append n (x ∷ a) b ha hb (suc i) = below-append n a b (λ j. ha (suc j)) hb i
+
+pub below-without : (n : ℕ) (l : List ℕ) (t : ℕ) → Below n l → Below n (without l t)
+below-without n [] t h i = h i
+below-without n (x ∷ l) zero h i = h (suc i)
+below-without n (x ∷ l) (suc t) h zero = h 0
+below-without n (x ∷ l) (suc t) h (suc i) = below-without n l t (λ j. h (suc j)) i
+
+-- ---- a part that comes back
 
 -- what the borrow checker has of a list whose part has come back
 pub put-is : (l : List ℕ) (a e : ℕ) (ys : List ℕ) → a ≤ e → putMid a (e - a) l ys ≡ put l a e ys

@@ -16,7 +16,7 @@ use Rattle.poly.specs.Linear.{entry}
 use Rattle.poly.specs.Rows.{divided, placed}
 use Rattle.poly.specs.Systems.{flat, rank, WellFormed, Equation, Joined}
 use Rattle.poly.proofs.Linear.{scale-operation}
-use Rattle.poly.proofs.Rows.{divided-at, length-placed, placed-here, placed-other, below-placed}
+use Rattle.poly.proofs.RowOperations.{divided-at, length-placed, placed-here, placed-other, below-placed}
 use Rattle.poly.proofs.Triangular.{Triangular}
 use Rattle.poly.proofs.WellFormed.{row-fits, triangular}
 use Rattle.poly.proofs.Insertion.{Insert, insert-satisfies, insert-rank, insert-triangular}

@@ -18,7 +18,7 @@ use Rattle.poly.specs.Rows.{eliminated}
 use Rattle.poly.specs.Systems.{System, flat, WellFormed, Equation, Reducing}
 use Rattle.poly.proofs.Parts.{part-at}
 use Rattle.poly.proofs.Linear.{dot-cong, row-operation}
-use Rattle.poly.proofs.Rows.{length-eliminated, eliminated-lt, eliminated-at}
+use Rattle.poly.proofs.RowOperations.{length-eliminated, eliminated-lt, eliminated-at}
 
 -- equations with the same coefficients and right-hand side hold together
 pub holds-cong : (F : Field) (k : ℕ) (r s v : ℕ → ℕ) → ((j : ℕ) → j ≤ k → r j ≡ s j) → Holds F k r v → Holds F k s v

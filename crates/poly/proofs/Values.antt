@@ -1,20 +1,17 @@
 -- The laws of the value of a polynomial: sums, multiples, more coefficients, a shift, the product by x - a, and Horner's rule.
 -- Assumes nothing.
 use mathlib.Core.Path.{_≡_, refl, sym, ap, ap₂, _∙_}
-use mathlib.Core.List.{List}
 use Prim.Native.Nat.{ℕ, zero, suc, _+_, _-_, _*_, _≤_, _<_}
-use native.Mathlib.Nat.{add-zero, mul-suc, mul-le-mul-left}
+use native.Mathlib.Nat.{mul-suc, mul-le-mul-left}
 use native.Mathlib.Omega.{arith}
-use lib.ListN.{getD}
 use Rattle.field.specs.Plus.{plus}
 use Rattle.field.specs.Field.{Field}
 use Rattle.field.specs.Power.{power}
 use Rattle.field.specs.Sum.{sum}
-use Rattle.field.proofs.Plus.{plus-comm, plus-assoc, plus-zero}
-use Rattle.field.proofs.FieldLaws.{zero-lt, times-zero, zero-times, plus-times, times-left-comm, times-one-right}
+use Rattle.field.proofs.Plus.{plus-comm, plus-zero}
+use Rattle.field.proofs.FieldLaws.{zero-lt, zero-times, plus-times, times-left-comm, times-one-right}
 use Rattle.field.proofs.Powers.{power-zero, power-suc, power-add}
 use Rattle.field.proofs.Sums.{sum-none, sum-suc, sum-cong, sum-zeros, sum-plus, sum-swap, sum-first, sum-add, sum-extend, sum-scale, sum-scale-right, sum-lt}
-use Rattle.poly.specs.Ranges.{Below}
 use Rattle.poly.specs.Polynomials.{value, linear}
 
 -- x times f
@@ -99,20 +96,20 @@ module _ (F : Field) where
       ∙ plus-comm (f 0) (F .times x (sum n (term (λ i. f (suc i)) x)))
 
   -- f times (x - a)
-  pub value-linear : (n a : ℕ) (f : ℕ → ℕ) (x : ℕ) → f n ≡ 0 → value F (suc n) (linear F a f) x ≡ F .times (plus x a) (value F n f x)
+  pub linear-shift : (a : ℕ) (f : ℕ → ℕ) (i : ℕ) → linear F a f i ≡ plus (F .times a (f i)) (shift f i)
   unfolding linear
+  linear-shift a f zero = sym (plus-zero (F .times a (f 0)))
+  linear-shift a f (suc i) = refl
+
+  pub value-linear : (n a : ℕ) (f : ℕ → ℕ) (x : ℕ) → f n ≡ 0 → value F (suc n) (linear F a f) x ≡ F .times (plus x a) (value F n f x)
   value-linear n a f x z =
-      value-cong (suc n) (linear F a f) (λ i. plus (F .times a (f i)) (shift f i)) x (λ i l. by-parts i)
+      value-cong (suc n) (linear F a f) (λ i. plus (F .times a (f i)) (shift f i)) x (λ i l. linear-shift a f i)
       ∙ value-plus (suc n) (λ i. F .times a (f i)) (shift f) x
       ∙ ap₂ plus
-      (value-scale (suc n) a f x ∙ ap (F .times a) (value-suc n f x ∙ ap (λ (v : ℕ). plus (value F n f x) (F .times v (power F x n))) z ∙ ap (plus (value F n f x)) (zero-times F (power F x n)) ∙ plus-zero (value F n f x)))
+      (value-scale (suc n) a f x ∙ ap (F .times a) (value-extend n (suc n) f x (omega arith) (λ i k b. let e : i ≡ n = omega arith in ap f e ∙ z)))
       (value-first n (shift f) x (zero-lt F) ∙ plus-zero (F .times x (value F n f x)))
       ∙ plus-comm (F .times a (value F n f x)) (F .times x (value F n f x))
       ∙ sym (plus-times F x a (value F n f x))
-    where
-      by-parts : (i : ℕ) → linear F a f i ≡ plus (F .times a (f i)) (shift f i)
-      by-parts zero = sym (plus-zero (F .times a (f 0)))
-      by-parts (suc i) = refl
 
 -- ---- Horner's rule
 
@@ -135,7 +132,9 @@ module _ (F : Field) where
       ap (λ (k : ℕ). value F k (λ k. f (i - 1 + k)) x) one
       ∙ value-first F (n - i) (λ k. f (i - 1 + k)) x (rw first small)
       ∙ ap₂ plus
-      (ap (F .times x) (value-cong F (n - i) (λ k. f (i - 1 + suc k)) (λ k. f (i + k)) x (λ k _. let same : i - 1 + suc k ≡ i + k = omega arith in ap f same) ∙ sym e) ∙ F .times-comm x acc)
+      (ap (F .times x)
+      (value-cong F (n - i) (λ k. f (i - 1 + suc k)) (λ k. f (i + k)) x (λ k _. let same : i - 1 + suc k ≡ i + k = omega arith in ap f same) ∙ sym e)
+      ∙ F .times-comm x acc)
       (ap f first))
 
   pub horner-all : (n i : ℕ) (f : ℕ → ℕ) (x acc : ℕ) → i ≤ 0 → acc ≡ value F (n - i) (λ k. f (i + k)) x → acc ≡ value F n f x

@@ -5,3 +5,4 @@ pub mod Polynomials
 pub mod Linear
 pub mod Rows
 pub mod Systems
+pub mod Interpolation

@@ -1,6 +1,8 @@
 -- Polynomials over a field of characteristic 2: f i is the coefficient of x^i. Since - is +, x - a is plus x a.
+use mathlib.Core.Path.{_≡_}
 use mathlib.Core.List.{List, [], _∷_}
 use Prim.Native.Nat.{ℕ, zero, suc, _*_, _%_}
+use lib.ListN.{length, getD}
 use Rattle.field.specs.Plus.{plus}
 use Rattle.field.specs.Field.{Field}
 use Rattle.field.specs.Power.{power}
@@ -35,3 +37,8 @@ product F (a ∷ l) x = F .times (plus x a) (product F l x)
 -- the product without the factor of the number t of l
 unfoldable pub others : Field → List ℕ → ℕ → ℕ → ℕ
 others F l t x = product F (without l t) x
+
+-- out has the coefficients of the vanishing polynomial of the columns
+pub record Vanishing (F : Field) (columns out : List ℕ) : Type 0 where
+  pub long : length out ≡ 65
+  pub is : (i : ℕ) → getD out i 0 ≡ vanishing F columns i

@@ -5,7 +5,8 @@ ghost use lib.ListN.{length};
 ghost use Rattle.field.specs.Plus.{plus};
 ghost use Rattle.field.proofs.Fields.{fieldOf};
 ghost use Rattle.poly.specs.Linear.{entry, dot};
-ghost use Rattle.poly.specs.Rows.{added, scaled, divided, stored, eliminated, placed};
+ghost use Rattle.poly.specs.Rows.{divided, eliminated, placed};
+use crate::rows;
 ghost use Rattle.poly.specs.Systems.{flat, Full, WellFormed, Equation, Reduced, Brought, Solves};
 
 // What bringing in an equation did: a row more; nothing, for it held already; nothing, for it never holds.
@@ -13,44 +14,6 @@ pub enum Effect {
     Pivot,
     Redundant,
     Contradiction,
-}
-
-// dst[j] += c * src[j] for each j below n
-fn add_multiple(q: u8, c: u8, n: usize, src: &[u8], dst: &mut [u8])
-    requires { ⌜ (n ≤ length (now src)) × (n ≤ length (now dst)) ⌝ }
-    requires { ⌜ (c < fieldOf q .size) × ((j : ℕ) → j < n → entry (now src) j < fieldOf q .size) ⌝ }
-    ensures { λ _. ⌜ now (dst .exit) ≡ added (fieldOf q) c n (now (src .entry)) (now (dst .entry)) ⌝ }
-{
-    let mut j = 0;
-    while j < n {
-        dst[j] = dst[j] ^ field::symbol::times(q, c, src[j]);
-        j += 1;
-    }
-}
-
-// row[j] *= c for each j below n
-fn scale(q: u8, c: u8, n: usize, row: &mut [u8])
-    requires { ⌜ n ≤ length (now row) ⌝ }
-    requires { ⌜ (c < fieldOf q .size) × ((j : ℕ) → j < n → entry (now row) j < fieldOf q .size) ⌝ }
-    ensures { λ _. ⌜ now (row .exit) ≡ scaled (fieldOf q) c n (now (row .entry)) ⌝ }
-{
-    let mut j = 0;
-    while j < n {
-        row[j] = field::symbol::times(q, c, row[j]);
-        j += 1;
-    }
-}
-
-// dst[j] = src[j] for each j below n
-fn store(n: usize, src: &[u8], dst: &mut [u8])
-    requires { ⌜ (n ≤ length (now src)) × (n ≤ length (now dst)) ⌝ }
-    ensures { λ _. ⌜ now (dst .exit) ≡ stored n (now (src .entry)) (now (dst .entry)) ⌝ }
-{
-    let mut j = 0;
-    while j < n {
-        dst[j] = src[j];
-        j += 1;
-    }
 }
 
 // start + a[0] * b[0] + .. + a[n - 1] * b[n - 1]
@@ -74,7 +37,7 @@ fn eliminate(q: u8, c: u8, n: usize, k: usize, src: &[u8], dst: &mut [u8])
     requires { ⌜ (c < fieldOf q .size) × Equation (fieldOf q) k (now src) ⌝ }
     ensures { λ _. ⌜ now (dst .exit) ≡ eliminated (fieldOf q) c n k (now (src .entry)) (now (dst .entry)) ⌝ }
 {
-    add_multiple(q, c, n, src, dst);
+    rows::add_scaled(q, c, n, src, dst);
     dst[k] = dst[k] ^ field::symbol::times(q, c, src[k]);
 }
 
@@ -109,10 +72,10 @@ fn place(q: u8, stride: usize, k: usize, i: usize, work: &mut [u8], row: &mut [u
 {
     let c = field::symbol::inverse(q, row[i]);
     let n = k + 1;
-    scale(q, c, n, row);
+    rows::scale(q, c, n, row);
     let base = i * stride;
     let end = base + stride;
-    store(n, row, &mut work[base..end]);
+    rows::copy(n, row, &mut work[base..end]);
 }
 
 // Brings one more equation into the system. Row is used up.

@@ -7,8 +7,8 @@ use Rattle.poly.specs.Rows.{eliminated}
 use Rattle.poly.proofs.system.eliminate.Statement.{statement}
 use Rattle.poly.proofs.system.eliminate.Tie as tie
 
-add-multiple-requires : tie.Need-add-multiple-requires
-add-multiple-requires c κs =
+add-scaled-requires : tie.Need-add-scaled-requires
+add-scaled-requires c κs =
     let p = c .before .before .before .pre in
     (omega (arith, p .1 .1 .long), (p .1 .0, λ j h. p .1 .1 .symbols j (omega arith)))
 
@@ -31,13 +31,13 @@ same-length c = search needs
 
 returns : tie.Need-returns
 unfolding eliminated plus
-returns c = cc (c .times .ensures, c .before .before .before .before .before .add-multiple .ensures)
+returns c = cc (c .times .ensures, c .before .before .before .before .before .add-scaled .ensures)
 
 pub eliminate-spec : {M : Type 1} → statement M
 eliminate-spec =
     tie.close
     (tie.spec
-    add-multiple-requires
+    add-scaled-requires
     slice-read-dst
     shared-slice-read-times
     times-requires

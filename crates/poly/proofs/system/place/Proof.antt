@@ -40,17 +40,17 @@ mul-base c = omega (arith, fits (c .before .before .before .before .before .befo
 add-end : tie.Need-add-end
 add-end c = omega (arith, fits (c .before .before .before .before .before .before .before .before))
 
-sub-store : tie.Need-sub-store
-sub-store c = search needs
+sub-copy : tie.Need-sub-copy
+sub-copy c = search needs
 
-part-store-start : tie.Need-part-store-start
-part-store-start c = search needs
+part-copy-start : tie.Need-part-copy-start
+part-copy-start c = search needs
 
-part-store-end : tie.Need-part-store-end
-part-store-end c = omega (arith, fits (c .before .before .before .before .before .before .before .before .before))
+part-copy-end : tie.Need-part-copy-end
+part-copy-end c = omega (arith, fits (c .before .before .before .before .before .before .before .before .before))
 
-store-requires : tie.Need-store-requires
-store-requires c κs = search needs
+copy-requires : tie.Need-copy-requires
+copy-requires c κs = search needs
 
 same-length : tie.Need-same-length
 same-length c = search needs
@@ -68,7 +68,7 @@ returns c =
     let n : ℕ = s .args .k + 1 in
     put-is w base end _ (omega arith)
     ∙ ap (put w base end)
-    (c .before .before .store .ensures
+    (c .before .before .copy .ensures
     ∙ ap (λ (r : List ℕ). stored n r (part w base end))
     (c .before .before .before .before .before .before .before .scale .ensures
     ∙ ap (λ (x : ℕ). scaled (fieldOf (s .args .q)) x n (s .args .row .now)) (c .before .before .before .before .before .before .before .before .before .inverse .ensures)))
@@ -83,10 +83,10 @@ place-spec =
     scale-requires
     mul-base
     add-end
-    sub-store
-    part-store-start
-    part-store-end
-    store-requires
+    sub-copy
+    part-copy-start
+    part-copy-end
+    copy-requires
     same-length
     same-length-2
     returns)

@@ -1,4 +1,4 @@
--- `poly::system::store` meets its contract. The invariant of its loop: the first j are written.
+-- `poly::rows::copy` meets its contract. The invariant of its loop: the first j are written.
 -- Assumes nothing.
 use mathlib.Core.Path.{_≡_, refl}
 use Prim.Native.Nat.{_≤_, _-_}
@@ -8,8 +8,8 @@ use Rattle.poly.specs.Ranges.{writes}
 use Rattle.poly.specs.Linear.{entry}
 use Rattle.poly.specs.Rows.{stored}
 use Rattle.poly.proofs.Writes.{writes-turn, writes-end}
-use Rattle.poly.proofs.system.store.Statement.{statement}
-use Rattle.poly.proofs.system.store.Tie as tie
+use Rattle.poly.proofs.rows.copy.Statement.{statement}
+use Rattle.poly.proofs.rows.copy.Tie as tie
 
 abbrev Inv-loop : tie.InvT-loop
 Inv-loop n src dst₀ j₀ dst j = (j ≤ n) × (length dst ≡ length dst₀) × (dst ≡ writes dst₀ j (entry src))
@@ -45,8 +45,8 @@ returns : tie.Need-returns Inv-loop μ-loop
 unfolding stored
 returns c = writes-end _ _ _ _ _ (c .before .loop .inv .2) (c .before .loop .inv .0) (c .loop-test .left)
 
-pub store-spec : {M : Type 1} → statement M
-store-spec =
+pub copy-spec : {M : Type 1} → statement M
+copy-spec =
     tie.close
     (tie.spec
     Inv-loop

@@ -1,4 +1,4 @@
--- `poly::system::scale` meets its contract. The invariant of its loop: the first j are written.
+-- `poly::rows::scale` meets its contract. The invariant of its loop: the first j are written.
 -- Assumes nothing.
 use mathlib.Core.Path.{_≡_, refl, ap, _∙_}
 use Prim.Native.Nat.{_≤_, _-_}
@@ -9,8 +9,8 @@ use Rattle.poly.specs.Ranges.{writes}
 use Rattle.poly.specs.Linear.{entry}
 use Rattle.poly.specs.Rows.{scaled}
 use Rattle.poly.proofs.Writes.{writes-turn, writes-kept, writes-end}
-use Rattle.poly.proofs.system.scale.Statement.{statement}
-use Rattle.poly.proofs.system.scale.Tie as tie
+use Rattle.poly.proofs.rows.scale.Statement.{statement}
+use Rattle.poly.proofs.rows.scale.Tie as tie
 
 abbrev Inv-loop : tie.InvT-loop
 Inv-loop q c n row₀ j₀ row j = (j ≤ n) × (length row ≡ length row₀) × (row ≡ writes row₀ j (λ i. fieldOf q .times c (entry row₀ i)))

@@ -1,4 +1,4 @@
--- `poly::system::add_multiple` meets its contract. The invariant of its loop: the first j are written.
+-- `poly::rows::add_scaled` meets its contract. The invariant of its loop: the first j are written.
 -- Assumes nothing.
 use mathlib.Core.Path.{_≡_, refl}
 use Prim.Native.Nat.{_≤_, _-_}
@@ -10,8 +10,8 @@ use Rattle.poly.specs.Ranges.{writes}
 use Rattle.poly.specs.Linear.{entry}
 use Rattle.poly.specs.Rows.{added}
 use Rattle.poly.proofs.Writes.{writes-turn, writes-kept, writes-end}
-use Rattle.poly.proofs.system.add_multiple.Statement.{statement}
-use Rattle.poly.proofs.system.add_multiple.Tie as tie
+use Rattle.poly.proofs.rows.add_scaled.Statement.{statement}
+use Rattle.poly.proofs.rows.add_scaled.Tie as tie
 
 abbrev Inv-loop : tie.InvT-loop
 Inv-loop q c n src dst₀ j₀ dst j =
@@ -59,8 +59,8 @@ returns : tie.Need-returns Inv-loop μ-loop
 unfolding added
 returns c = writes-end _ _ _ _ _ (c .before .loop .inv .2) (c .before .loop .inv .0) (c .loop-test .left)
 
-pub add-multiple-spec : {M : Type 1} → statement M
-add-multiple-spec =
+pub add-scaled-spec : {M : Type 1} → statement M
+add-scaled-spec =
     tie.close
     (tie.spec
     Inv-loop

@@ -1,0 +1,45 @@
+// Rows of symbols.
+ghost use mathlib.Core.Path.{_≡_};
+ghost use Prim.Native.Nat.{ℕ, _≤_, _<_};
+ghost use lib.ListN.{length};
+ghost use Rattle.field.proofs.Fields.{fieldOf};
+ghost use Rattle.poly.specs.Linear.{entry};
+ghost use Rattle.poly.specs.Rows.{added, scaled, stored};
+
+// dst[j] += c * src[j] for each j below n.
+pub fn add_scaled(q: u8, c: u8, n: usize, src: &[u8], dst: &mut [u8])
+    requires { ⌜ (n ≤ length (now src)) × (n ≤ length (now dst)) ⌝ }
+    requires { ⌜ (c < fieldOf q .size) × ((j : ℕ) → j < n → entry (now src) j < fieldOf q .size) ⌝ }
+    ensures { λ _. ⌜ now (dst .exit) ≡ added (fieldOf q) c n (now (src .entry)) (now (dst .entry)) ⌝ }
+{
+    let mut j = 0;
+    while j < n {
+        dst[j] = dst[j] ^ field::symbol::times(q, c, src[j]);
+        j += 1;
+    }
+}
+
+// row[j] *= c for each j below n.
+pub fn scale(q: u8, c: u8, n: usize, row: &mut [u8])
+    requires { ⌜ n ≤ length (now row) ⌝ }
+    requires { ⌜ (c < fieldOf q .size) × ((j : ℕ) → j < n → entry (now row) j < fieldOf q .size) ⌝ }
+    ensures { λ _. ⌜ now (row .exit) ≡ scaled (fieldOf q) c n (now (row .entry)) ⌝ }
+{
+    let mut j = 0;
+    while j < n {
+        row[j] = field::symbol::times(q, c, row[j]);
+        j += 1;
+    }
+}
+
+// dst[j] = src[j] for each j below n.
+pub fn copy(n: usize, src: &[u8], dst: &mut [u8])
+    requires { ⌜ (n ≤ length (now src)) × (n ≤ length (now dst)) ⌝ }
+    ensures { λ _. ⌜ now (dst .exit) ≡ stored n (now (src .entry)) (now (dst .entry)) ⌝ }
+{
+    let mut j = 0;
+    while j < n {
+        dst[j] = src[j];
+        j += 1;
+    }
+}

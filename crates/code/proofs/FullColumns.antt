@@ -1,7 +1,7 @@
 -- The full ascending list of columns; and what the checks say of a call over it.
 -- Assumes nothing.
 use mathlib.Core.Bool.{true, false}
-use mathlib.Core.List.{List}
+use mathlib.Core.List.{List, []}
 use mathlib.Core.Path.{_≡_, refl, sym, ap, _∙_}
 use Prim.Native.Nat.{ℕ, zero, suc, _+_, _*_, _≤_, _<_}
 use native.Mathlib.Decide.{decLt}
@@ -13,11 +13,13 @@ use Rattle.field.proofs.FieldLaws.{zero-lt}
 use Rattle.field.proofs.Curves.{sizes}
 use Rattle.poly.specs.Ranges.{Below}
 use Rattle.code.specs.Passing.{passing, upTo}
-use Rattle.code.specs.Points.{columnsOf}
+use Rattle.code.specs.Points.{pointsOn, columnsOf}
 use Rattle.code.specs.Terms.{size}
 use Rattle.code.specs.Columns.{Columns}
 use Rattle.code.specs.Encodable.{Encodable}
 use Rattle.code.proofs.Passing.{place-true, at-place, nodup-passing}
+use Rattle.code.proofs.Columns.{word-length}
+use Rattle.code.proofs.Word.{length-word}
 use Rattle.code.proofs.Checks.{Accepted, symbol-of-good}
 
 pub length-upTo : (n : ℕ) → length (upTo n) ≡ n
@@ -33,6 +35,13 @@ full-columns q curve =
       distinct = nodup-passing (λ i. true) (q * q);
     }
 
+pub full-places : (q : ℕ) → IsCurve q → q * length (columnsOf q) ≡ q * q * q
+full-places q curve = ap (λ (x : ℕ). q * x) (length-upTo (q * q)) ∙ sizes q curve .grid
+
+pub full-points : (q : ℕ) → IsCurve q → length (pointsOn q (columnsOf q)) ≡ q * q * q
+full-points q curve =
+    sym (length-word q (columnsOf q) 0 []) ∙ word-length q 0 curve [] (columnsOf q) (full-columns q curve .small) ∙ full-places q curve
+
 -- the values of an accepted message or whole word are symbols
 pub accepted-symbols : (q : ℕ) → IsCurve q → (takes : ℕ) (input : List ℕ) (writes room : ℕ) → Accepted false (q * q) takes input writes room → Below (fieldOf q .size) input
 accepted-symbols q curve takes input writes room h i = elim (decLt i (length input)) [
@@ -44,7 +53,7 @@ pub encodable : (q m : ℕ) (message word : List ℕ) → IsCurve q → m < q * 
     → Encodable q (columnsOf q) m message word
 encodable q m message word curve l h =
     let z = sizes q curve in
-    let n : q * length (columnsOf q) ≡ q * q * q = ap (λ (x : ℕ). q * x) (length-upTo (q * q)) ∙ z .grid in
+    let n = full-places q curve in
     record {
       over = full-columns q curve;
       few = omega (arith, length-upTo (q * q), z .symbols);

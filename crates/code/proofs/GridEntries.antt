@@ -165,31 +165,29 @@ rank-zero q = refl
 pub entry-le : (q w i j : ℕ) → Split q w i j → j ≤ i → q * j ≤ w
 entry-le q w i j d l = omega (arith, ap (λ (x : ℕ). q * x) (d .0), ap (λ (x : ℕ). q * x) (d .1), mul-le-mul-left q l, div-add-mod w q)
 
-abbrev pub gathered : ℕ → List ℕ → ℕ → List ℕ
-gathered q grid w = map (λ v. getD grid (entryOf q v) 0) (passing (isTerm q) w)
+-- a list that is filled from the front with the values of f at the weights below w
+abbrev pub termList : (ℕ → ℕ) → ℕ → ℕ → List ℕ
+termList f q w = map f (passing (isTerm q) w)
 
-module _ (q : ℕ) (grid message : List ℕ) (w k i j : ℕ) (d : Split q w i j) (e : take k message ≡ gathered q grid w) where
-  pub gather-turn : k < length message → j ≤ i → take (k + 1) (set message k (getD grid (w - q * j) 0)) ≡ gathered q grid (w + 1)
-  gather-turn l t =
-      rw (
-        add-one w,
-        add-one k,
-        take-suc-set message k (getD grid (w - q * j) 0) l,
-        e,
-        d .1,
-        passing-true (isTerm q) w (is-term q w i j d t),
-      )
-      (sym (map-append (λ v. getD grid (entryOf q v) 0) (passing (isTerm q) w) (w ∷ [])))
-
-  pub gather-skip : i < j → take k message ≡ gathered q grid (w + 1)
-  gather-skip t = rw (add-one w, passing-false (isTerm q) w (no-term q w i j d t)) e
-
-pub gather-start : (q : ℕ) (grid message : List ℕ) → take 0 message ≡ gathered q grid 0
+pub terms-start : (f : ℕ → ℕ) (q : ℕ) (list : List ℕ) → take 0 list ≡ termList f q 0
 unfolding passing
-gather-start q grid message = refl
+terms-start f q list = refl
 
-pub gather-end : (q : ℕ) (grid message : List ℕ) (w k : ℕ) → take k message ≡ gathered q grid w → (m : ℕ) → w ≡ m + 1 → k ≡ rank q w
+module _ (f : ℕ → ℕ) (q : ℕ) (list : List ℕ) (w k i j : ℕ) (d : Split q w i j) (e : take k list ≡ termList f q w) where
+  pub terms-turn : (v : ℕ) → k < length list → j ≤ i → v ≡ f w → take (k + 1) (set list k v) ≡ termList f q (w + 1)
+  terms-turn v l t is-v =
+      rw (add-one w, add-one k, take-suc-set list k v l, e, is-v, passing-true (isTerm q) w (is-term q w i j d t))
+      (sym (map-append f (passing (isTerm q) w) (w ∷ [])))
+
+  pub terms-skip : i < j → take k list ≡ termList f q (w + 1)
+  terms-skip t = rw (add-one w, passing-false (isTerm q) w (no-term q w i j d t)) e
+
+-- the coefficients of a grid
+abbrev pub gathered : List ℕ → ℕ → ℕ → ℕ
+gathered grid q v = getD grid (entryOf q v) 0
+
+pub gather-end : (q : ℕ) (grid message : List ℕ) (w k : ℕ) → take k message ≡ termList (gathered grid q) q w → (m : ℕ) → w ≡ m + 1 → k ≡ rank q w
     → length message ≡ size q m → message ≡ gather q m grid
 unfolding gather
 gather-end q grid message w k e m a b h =
-    sym (take-all k message (omega (arith, b, h, ap (rank q) a, ap (rank q) (add-one m)))) ∙ e ∙ ap (gathered q grid) (a ∙ add-one m)
+    sym (take-all k message (omega (arith, b, h, ap (rank q) a, ap (rank q) (add-one m)))) ∙ e ∙ ap (termList (gathered grid q) q) (a ∙ add-one m)

@@ -14,3 +14,8 @@ pub mod YsTables
 pub mod Stages
 pub mod Answers
 pub mod FullColumns
+pub mod Rows
+pub mod Fitting
+pub mod Facts
+pub mod Equations
+pub mod Collecting

@@ -12,3 +12,5 @@ pub mod Unencoded
 pub mod Recovered
 pub mod Columns
 pub mod Encodable
+pub mod Rows
+pub mod Recovering

@@ -3,4 +3,5 @@ pub mod check;
 pub mod encoding;
 pub mod grid;
 pub mod point;
+pub mod recovery;
 pub mod term;

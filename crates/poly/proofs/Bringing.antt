@@ -2,13 +2,15 @@
 -- Assumes nothing.
 use mathlib.Core.Path.{_≡_, sym, _∙_}
 use mathlib.Core.List.{List}
-use Prim.Native.Nat.{ℕ, _+_, _-_, _<_}
+use Prim.Native.Nat.{ℕ, _+_, _-_, _≤_, _<_}
 use native.Mathlib.Omega.{arith}
 use Rattle.field.specs.Field.{Field}
-use Rattle.poly.specs.Linear.{entry, dot}
+use Rattle.poly.specs.Linear.{entry, dot, Holds}
 use Rattle.poly.specs.Rows.{divided, placed}
-use Rattle.poly.specs.Systems.{System, flat, rank, WellFormed, Equation, Reducing, Reduced, Joined, Excluded}
-use Rattle.poly.proofs.Linear.{dot-zero}
+use Rattle.poly.specs.Systems.{System, flat, rank, WellFormed, Equation, Reducing, Reduced, Joined, Excluded, Brought}
+use Rattle.poly.specs.declared.system.Effect.{Effect}
+use Rattle.poly.specs.declared.system.Effect.the-variants.{Pivot, Redundant, Contradiction}
+use Rattle.poly.proofs.Linear.{dot-cong, dot-zero}
 use Rattle.poly.proofs.Placement.{placed-formed, placed-rank, placed-joined}
 
 module _ (F : Field) (k : ℕ) (S : System) (row₀ row : List ℕ) where
@@ -54,3 +56,20 @@ module _ (F : Field) (stride k : ℕ) (work row₀ row : List ℕ) (r : ℕ) (R 
           λ s. let w = placed-both v .1 s in (w .0, R .reducing .same v (w .0) .1 (w .1)),
         );
       }
+
+-- an equation with the same coefficients and the same right-hand side does the same
+module _ (F : Field) (stride k : ℕ) (work work′ : List ℕ) (r s : ℕ → ℕ) (e : (j : ℕ) → j ≤ k → r j ≡ s j) where
+  holds-same : (v : ℕ → ℕ) → Holds F k s v → Holds F k r v
+  holds-same v h = dot-cong F k r s v (λ j l. e j (omega arith)) ∙ h ∙ sym (e k (omega arith))
+
+  holds-back : (v : ℕ → ℕ) → Holds F k r v → Holds F k s v
+  holds-back v h = sym (dot-cong F k r s v (λ j l. e j (omega arith))) ∙ h ∙ e k (omega arith)
+
+  joined-same : (S S′ : System) → Joined F k S r S′ → Joined F k S s S′
+  joined-same S S′ h =
+      record { both = λ v. (λ b. h .both v .0 (b .0, holds-same v (b .1)), λ b. let w = h .both v .1 b in (w .0, holds-back v (w .1))) }
+
+  pub brought-same : (effect : Effect) → Brought F stride k work r work′ effect → Brought F stride k work s work′ effect
+  brought-same Pivot h = (joined-same (flat stride k work) (flat stride k work′) (h .0), h .1)
+  brought-same Redundant h = (joined-same (flat stride k work) (flat stride k work′) (h .0), h .1)
+  brought-same Contradiction h = (record { never = λ v a b. h .0 .never v a (holds-same v b) }, h .1)

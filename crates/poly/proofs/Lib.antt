@@ -40,3 +40,4 @@ pub mod Halves
 pub mod Joins
 pub mod Divisions
 pub mod Interpolants
+pub mod Elimination

@@ -74,13 +74,12 @@ pub record Joined (F : Field) (k : ℕ) (S : System) (r : ℕ → ℕ) (S′ : S
 pub record Excluded (F : Field) (k : ℕ) (S : System) (r : ℕ → ℕ) : Type 0 where
   pub never : (v : ℕ → ℕ) → Satisfies F k S v → Holds F k r v → ⊥
 
--- what work′ is after the equation row was brought into work, by the answer
-abbrev pub Brought : Field → ℕ → ℕ → List ℕ → List ℕ → List ℕ → Effect → Type 0
-Brought F stride k work row work′ Pivot =
-    Joined F k (flat stride k work) (entry row) (flat stride k work′)
-    × (rank k (flat stride k work′) ≡ rank k (flat stride k work) + 1)
-Brought F stride k work row work′ Redundant = Joined F k (flat stride k work) (entry row) (flat stride k work′) × (work′ ≡ work)
-Brought F stride k work row work′ Contradiction = Excluded F k (flat stride k work) (entry row) × (work′ ≡ work)
+-- what work′ is after the equation r was brought into work, by the answer
+abbrev pub Brought : Field → ℕ → ℕ → List ℕ → (ℕ → ℕ) → List ℕ → Effect → Type 0
+Brought F stride k work r work′ Pivot =
+    Joined F k (flat stride k work) r (flat stride k work′) × (rank k (flat stride k work′) ≡ rank k (flat stride k work) + 1)
+Brought F stride k work r work′ Redundant = Joined F k (flat stride k work) r (flat stride k work′) × (work′ ≡ work)
+Brought F stride k work r work′ Contradiction = Excluded F k (flat stride k work) r × (work′ ≡ work)
 
 -- message satisfies S, and no other k symbols do
 pub record Solves (F : Field) (k : ℕ) (S : System) (message : List ℕ) : Type 0 where

@@ -82,7 +82,7 @@ fn place(q: u8, stride: usize, k: usize, i: usize, work: &mut [u8], row: &mut [u
 pub fn bring_in(q: u8, stride: usize, k: usize, work: &mut [u8], row: &mut [u8]) -> Effect
     requires { ⌜ WellFormed (fieldOf q) stride k (now work) × Equation (fieldOf q) k (now row) ⌝ }
     ensures { λ r. ⌜ WellFormed (fieldOf q) stride k (now (work .exit)) ⌝ }
-    ensures { λ r. ⌜ Brought (fieldOf q) stride k (now (work .entry)) (now (row .entry)) (now (work .exit)) r ⌝ }
+    ensures { λ r. ⌜ Brought (fieldOf q) stride k (now (work .entry)) (entry (now (row .entry))) (now (work .exit)) r ⌝ }
 {
     let p = reduce(q, stride, k, work, row);
     if p == 0 {

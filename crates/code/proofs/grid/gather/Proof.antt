@@ -7,15 +7,15 @@ use native.Mathlib.Numerals.{add-one}
 use native.Mathlib.Omega.{arith}
 use borrow.Author.Needs.{needs}
 use denote.Ref.{now}
-use lib.ListN.{length, take, length-set}
+use lib.ListN.{length, getD, take, length-set}
 use Rattle.code.specs.Grid.{rank}
-use Rattle.code.proofs.GridEntries.{gathered, gather-start, gather-turn, gather-skip, gather-end, rank-turn, rank-skip, rank-zero, rank-lt, entry-le}
+use Rattle.code.proofs.GridEntries.{gathered, termList, terms-start, terms-turn, terms-skip, gather-end, rank-turn, rank-skip, rank-zero, rank-lt, entry-le}
 use Rattle.code.proofs.grid.gather.Statement.{statement}
 use Rattle.code.proofs.grid.gather.Tie as tie
 
 abbrev Inv-loop : tie.InvT-loop
 Inv-loop q m grid message₀ width₀ w₀ n₀ message w n =
-    (w ≤ m + 1) × (n ≡ rank q w) × (length message ≡ length message₀) × (take n message ≡ gathered q grid w)
+    (w ≤ m + 1) × (n ≡ rank q w) × (length message ≡ length message₀) × (take n message ≡ termList (gathered grid q) q w)
 
 abbrev μ-loop : tie.MeasureT-loop
 μ-loop q m grid message₀ width₀ w₀ n₀ message w n = m + 1 - w
@@ -23,7 +23,7 @@ abbrev μ-loop : tie.MeasureT-loop
 loop-holds : tie.Need-loop-holds Inv-loop μ-loop
 loop-holds c =
     let s = c .before .before in
-    (omega arith, rank-zero (s .args .q), refl, gather-start (s .args .q) (now (s .args .grid)) (now (s .args .message)))
+    (omega arith, rank-zero (s .args .q), refl, terms-start (gathered (now (s .args .grid)) (s .args .q)) (s .args .q) (now (s .args .message)))
 
 divide-requires : tie.Need-divide-requires Inv-loop μ-loop
 divide-requires c κs = c .before .before .before .before .pre .0
@@ -64,13 +64,13 @@ loop-again c =
       omega arith,
       v .4 ∙ rank-turn (s .args .q) (l .w) (l .n) _ _ d (l .inv .1) (v .0 .taken),
       rw (v .3) (simp length-set (l .inv .2)),
-      rw (v .3, v .4) (gather-turn (s .args .q) (now (s .args .grid)) (l .message) (l .w) (l .n) _ _ d (l .inv .3) k (v .0 .taken)),
+      rw (v .3, v .4) (terms-turn (gathered (now (s .args .grid)) (s .args .q)) (s .args .q) (l .message) (l .w) (l .n) _ _ d (l .inv .3) _ k (v .0 .taken) (ap (λ (x : ℕ). getD (now (s .args .grid)) (l .w - s .args .q * x) 0) (d .1))),
     ))
     (λ v. (
       omega arith,
       v .2 ∙ rank-skip (s .args .q) (l .w) (l .n) _ _ d (l .inv .1) (v .0 .left),
       rw (v .1) (l .inv .2),
-      rw (v .1, v .2) (gather-skip (s .args .q) (now (s .args .grid)) (l .message) (l .w) (l .n) _ _ d (l .inv .3) (v .0 .left)),
+      rw (v .1, v .2) (terms-skip (gathered (now (s .args .grid)) (s .args .q)) (s .args .q) (l .message) (l .w) (l .n) _ _ d (l .inv .3) (v .0 .left)),
     ))
     (c .if1 .came)
 

@@ -1,0 +1,141 @@
+// Recovery: a broken word to the message that alone fits it.
+ghost use mathlib.Core.Bool.{Bool};
+ghost use mathlib.Core.Path.{_≡_};
+ghost use Prim.Native.Nat.{ℕ, _+_, _*_, _≤_, _<_};
+ghost use lib.ListN.{length, getD, replicate};
+ghost use Rattle.field.specs.Curve.{IsCurve};
+ghost use Rattle.field.specs.Power.{power};
+ghost use Rattle.field.proofs.Fields.{fieldOf};
+ghost use Rattle.poly.specs.Ranges.{writes};
+ghost use Rattle.poly.specs.Linear.{entry};
+ghost use Rattle.poly.specs.Systems.{flat, WellFormed, Brought};
+ghost use Rattle.code.specs.Terms.{size};
+ghost use Rattle.code.specs.Columns.{Columns};
+ghost use Rattle.code.specs.Rows.{equationOf};
+ghost use Rattle.code.specs.Recovering.{EquationAt, BrokenOver, Advanced, Ended};
+use crate::point;
+use crate::term;
+use poly::system;
+use poly::system::Effect;
+
+// The rows of a system after a symbol was brought in, and whether that contradicts the others.
+pub struct Progress {
+    pub clash: bool,
+    pub rank: usize,
+}
+
+// x^0, x^1, .., x^15.
+fn powers(q: u8, x: u8) -> [u8; 16]
+    requires { ⌜ x < fieldOf q .size ⌝ }
+    ensures { λ r. ⌜ r ≡ writes (replicate 16 0) 16 (power (fieldOf q) x) ⌝ }
+{
+    let mut out = [0u8; 16];
+    let mut next = 1u8;
+    let mut i = 0;
+    while i < 16 {
+        out[i] = next;
+        next = field::symbol::times(q, x, next);
+        i += 1;
+    }
+    out
+}
+
+// The equation of the symbol s at the point (x, y): the values of the terms there, and s.
+fn write_equation(q: u8, m: usize, x: u8, y: u8, s: u8, row: &mut [u8])
+    requires { ⌜ IsCurve q × (m < q * 16) × (size q m < length (now row)) ⌝ }
+    requires { ⌜ (x < fieldOf q .size) × (y < fieldOf q .size) ⌝ }
+    ensures { λ _. ⌜ EquationAt q m x y s (now (row .exit)) ⌝ }
+{
+    let xs = powers(q, x);
+    let ys = powers(q, y);
+    let mut w = 0;
+    let mut n = 0;
+    while w <= m {
+        let d = term::divide(q, w);
+        let i = d.whole;
+        let j = d.rest;
+        if j <= i {
+            row[n] = field::symbol::times(q, xs[i - j], ys[j]);
+            n += 1;
+        }
+        w += 1;
+    }
+    row[n] = s;
+}
+
+// Brings in the symbol s of place p.
+fn bring_place(
+    q: u8,
+    columns: &[u8],
+    m: usize,
+    k: usize,
+    p: usize,
+    s: u8,
+    work: &mut [u8],
+) -> Effect
+    requires { ⌜ Columns q (now columns) × (p < q * length (now columns)) × (m < q * 16) × (k ≡ size q m) × (s < fieldOf q .size) ⌝ }
+    requires { ⌜ WellFormed (fieldOf q) 64 (size q m) (now work) ⌝ }
+    ensures { λ r. ⌜ WellFormed (fieldOf q) 64 (size q m) (now (work .exit)) ⌝ }
+    ensures { λ r. ⌜ Brought (fieldOf q) 64 (size q m) (now (work .entry)) (equationOf q (now (columns .entry)) m p s) (now (work .exit)) r ⌝ }
+{
+    let d = term::divide(q, p);
+    let t = d.whole;
+    let x = columns[t];
+    let ys = point::ys(q);
+    let at = (q as usize) * (x as usize) + d.rest;
+    let y = ys[at];
+    let mut row = [0u8; 64];
+    write_equation(q, m, x, y, s, &mut row);
+    system::bring_in(q, 64, k, work, &mut row)
+}
+
+// Brings in what stands at place p: 255 brings nothing.
+fn step(
+    q: u8,
+    columns: &[u8],
+    m: usize,
+    k: usize,
+    p: usize,
+    s: u8,
+    rank: usize,
+    work: &mut [u8],
+) -> Progress
+    requires { ⌜ Columns q (now columns) × (p < q * length (now columns)) × (m < q * 16) × (k ≡ size q m) × (rank < 64) ⌝ }
+    requires { ⌜ ((s ≡ 255 → ⊥) → s < fieldOf q .size) ⌝ }
+    requires { ⌜ WellFormed (fieldOf q) 64 (size q m) (now work) ⌝ }
+    ensures { λ r. ⌜ Advanced q (now (columns .entry)) m p s rank (now (work .entry)) (now (work .exit)) (r .clash) (r .rank) ⌝ }
+{
+    if s == 255 {
+        return Progress { clash: false, rank };
+    }
+    match bring_place(q, columns, m, k, p, s, work) {
+        Effect::Pivot => Progress {
+            clash: false,
+            rank: rank + 1,
+        },
+        Effect::Redundant => Progress { clash: false, rank },
+        Effect::Contradiction => Progress { clash: true, rank },
+    }
+}
+
+// Brings in the symbols of a broken word, by ascending place, until the rows are complete.
+fn collect(q: u8, columns: &[u8], m: usize, k: usize, word: &[u8], work: &mut [u8]) -> Progress
+    requires { ⌜ BrokenOver q (now columns) m (now word) × (k ≡ size q m) ⌝ }
+    requires { ⌜ WellFormed (fieldOf q) 64 (size q m) (now work) × ((i : ℕ) → entry (now work) i ≡ 0) ⌝ }
+    ensures { λ r. ⌜ Ended q (now (columns .entry)) m (now (word .entry)) (now (work .exit)) (r .clash) (r .rank) ⌝ }
+{
+    let mut rank = 0;
+    let mut p = 0;
+    while p < word.len() {
+        if rank == k {
+            return Progress { clash: false, rank };
+        }
+        let r = step(q, columns, m, k, p, word[p], rank, work);
+        if r.clash {
+            return r;
+        }
+        rank = r.rank;
+        p += 1;
+    }
+    Progress { clash: false, rank }
+}

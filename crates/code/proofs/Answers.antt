@@ -23,8 +23,11 @@ use Rattle.code.proofs.Checks.{order-follows, slices-follow}
 abbrev pub Refused : Outcome → Type 0
 Refused o = OneOf refusals (tagOf the-type o)
 
-refused : (checked o : Outcome) (slice : List ℕ) (answer : Answer) → checked ≡ o → eqb (number o) 0 ≡ false → unlessRefused checked slice answer ≡ answered o slice
+pub refused : (checked o : Outcome) (slice : List ℕ) (answer : Answer) → checked ≡ o → eqb (number o) 0 ≡ false → unlessRefused checked slice answer ≡ answered o slice
 refused checked o slice answer e n = ap (λ (x : Outcome). unlessRefused x slice answer) e ∙ ap (λ (b : Bool). cond b answer (answered o slice)) n
+
+pub not-refused : (checked : Outcome) (slice : List ℕ) (answer : Answer) → checked ≡ Done → unlessRefused checked slice answer ≡ answer
+not-refused checked slice answer e = ap (λ (x : Outcome). unlessRefused x slice answer) e
 
 done-or-not : (o : Outcome) → o ≡ Done → eqb (number o) 0 ≡ false → ⊥
 done-or-not o e n = let f : _≡_ {A = Bool} true false = sym (ap (λ (x : Outcome). eqb (number x) 0) e) ∙ n in let z : _≡_ {A = ℕ} 0 1 = cc in omega arith
@@ -50,4 +53,4 @@ module _ (q m : ℕ) (o : Outcome) (e : o ≡ orderChecks q m Done) (slice : Lis
 
     -- none does
     pub accepted : p ≡ Done → unlessRefused (orderChecks q m (sliceChecks gaps Q takes input writes room Done)) slice answer ≡ answer
-    accepted g = ap (λ (x : Outcome). unlessRefused x slice answer) (past-order (sliceChecks gaps Q takes input writes room Done) ∙ sym f ∙ g)
+    accepted g = not-refused checked slice answer (past-order (sliceChecks gaps Q takes input writes room Done) ∙ sym f ∙ g)

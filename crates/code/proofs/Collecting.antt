@@ -1,23 +1,33 @@
 -- Symbols that are brought in one after the other: what each step leaves, and what is left at the end.
 -- Assumes nothing.
 use mathlib.Core.Bool.{Bool, true, false}
-use mathlib.Core.List.{List}
+use mathlib.Core.List.{List, _++_}
 use mathlib.Core.Logic.{_↔_, _⊎_, inl, inr}
 use mathlib.Core.Path.{_≡_, refl, sym, ap, _∙_, subst}
 use Prim.Native.Nat.{ℕ, _+_, _*_, _≤_, _<_}
 use native.Mathlib.Decide.{ℕ-discrete}
 use native.Mathlib.Omega.{arith}
 use borrow.Author.Tests.{eq-eqb, ne-eqb}
-use lib.ListN.{length, getD}
+use lib.Dec.{T}
+use lib.ListN.{length, getD, List·getD-append}
+use lib.Seq.{ext-getD}
 use Rattle.field.proofs.Fields.{fieldOf}
+use Rattle.field.proofs.FieldLaws.{zero-lt}
 use Rattle.poly.specs.Linear.{entry, dot, Holds}
-use Rattle.poly.specs.Systems.{flat, Satisfies, rank, WellFormed, Joined, Brought}
+use Rattle.poly.specs.Systems.{flat, Satisfies, rank, WellFormed, Joined, Brought, Solves}
 use Rattle.poly.specs.declared.system.Effect.the-variants.{Pivot, Redundant, Contradiction}
+use Rattle.poly.specs.Ranges.{Below, writes}
+use Rattle.poly.specs.Rows.{stored}
+use Rattle.poly.proofs.Writes.{length-writes, writes-in}
+use Rattle.poly.proofs.Solutions.{solves-only}
+use Rattle.poly.proofs.Messages.{vector-below}
 use Rattle.poly.proofs.Linear.{dot-cong}
 use Rattle.poly.proofs.WellFormed.{blank-rank, blank-satisfied}
 use Rattle.code.specs.Terms.{size}
+use Rattle.code.specs.Word.{wordOf}
+use Rattle.code.specs.Fitting.{fits}
 use Rattle.code.specs.Rows.{rowOf, equationOf}
-use Rattle.code.specs.Recovering.{FitsBelow, FitsAt, Collected, Taken, Advanced, Gathered, Ended}
+use Rattle.code.specs.Recovering.{FitsBelow, FitsAt, Collected, Taken, Advanced, Gathered, Ended, Finished}
 
 module _ (q : ℕ) (columns : List ℕ) (m : ℕ) where
   -- ---- one symbol
@@ -97,3 +107,36 @@ module _ (q : ℕ) (columns : List ℕ) (m : ℕ) where
 
     pub ended-all : (work : List ℕ) (n r : ℕ) → n ≤ length word → length word ≤ n → Collected q columns m word work n r → Ended q columns m word work false r
     ended-all work n r l k h = record { place = n; within = l; collected = h; whole = λ d. omega arith }
+
+-- ---- a complete system
+
+pub solution-below : (q m : ℕ) (work message : List ℕ) → Solves (fieldOf q) (size q m) (flat 64 (size q m) work) message → length message ≡ size q m
+    → Below (fieldOf q .size) message
+solution-below q m work message h long = vector-below (fieldOf q .size) (size q m) message (zero-lt (fieldOf q)) (record { len = long; small = h .symbols })
+
+-- the solution that was copied
+pub copied : (k : ℕ) (solution rest message : List ℕ) → length solution ≡ k → length message ≡ k → stored k (solution ++ rest) message ≡ solution
+unfolding stored
+copied k solution rest message ls lm =
+    ext-getD 0 (writes message k (entry (solution ++ rest))) solution (length-writes message (entry (solution ++ rest)) k ∙ lm ∙ sym ls)
+    (λ j l.
+    let b : j < k = omega (arith, length-writes message (entry (solution ++ rest)) k) in
+    writes-in message (entry (solution ++ rest)) k j b (omega arith) ∙ List·getD-append solution rest 0 j (omega arith))
+
+pub finished-true : (q : ℕ) (columns : List ℕ) (m : ℕ) (word work message message′ solution : List ℕ) (b : Bool)
+    → Solves (fieldOf q) (size q m) (flat 64 (size q m) work) solution → length solution ≡ size q m → b ≡ fits (wordOf q columns m) word solution
+    → b ≡ true → message′ ≡ solution → Finished q columns m word work message message′ b
+finished-true q columns m word work message message′ solution b s long is-b t e =
+    subst (λ (x : Bool). Finished q columns m word work message message′ x) (sym t)
+    (rw e (s, long, subst T (sym t ∙ is-b) tt))
+
+pub finished-false : (q : ℕ) (columns : List ℕ) (m : ℕ) (word work message solution : List ℕ) (b : Bool)
+    → Solves (fieldOf q) (size q m) (flat 64 (size q m) work) solution → length solution ≡ size q m → b ≡ fits (wordOf q columns m) word solution
+    → b ≡ false → Finished q columns m word work message message b
+finished-false q columns m word work message solution b s long is-b f =
+    subst (λ (x : Bool). Finished q columns m word work message message x) (sym f) (
+      refl,
+      λ v vector h t.
+          let e = solves-only (fieldOf q) (flat 64 (size q m) work) (size q m) solution long s v vector h in
+          subst T (ap (fits (wordOf q columns m) word) e ∙ sym is-b ∙ f) t,
+    )

@@ -2,6 +2,7 @@
 -- Assumes nothing.
 use mathlib.Core.Bool.{true, false}
 use mathlib.Core.List.{List, []}
+use mathlib.Core.Logic.{inl, inr, ⊎-elim}
 use mathlib.Core.Path.{_≡_, refl, sym, ap, _∙_}
 use Prim.Native.Nat.{ℕ, zero, suc, _+_, _*_, _≤_, _<_}
 use native.Mathlib.Decide.{decLt}
@@ -10,17 +11,18 @@ use lib.ListN.{length, getD, List·getD-eq-default}
 use Rattle.field.specs.Curve.{IsCurve}
 use Rattle.field.proofs.Fields.{fieldOf}
 use Rattle.field.proofs.FieldLaws.{zero-lt}
-use Rattle.field.proofs.Curves.{sizes}
+use Rattle.field.proofs.Curves.{each-curve, sizes}
 use Rattle.poly.specs.Ranges.{Below}
 use Rattle.code.specs.Passing.{passing, upTo}
 use Rattle.code.specs.Points.{pointsOn, columnsOf}
-use Rattle.code.specs.Terms.{size}
+use Rattle.code.specs.Terms.{isTerm, size}
 use Rattle.code.specs.Columns.{Columns}
 use Rattle.code.specs.Encodable.{Encodable}
-use Rattle.code.proofs.Passing.{place-true, at-place, nodup-passing}
+use Rattle.code.specs.Recovering.{BrokenOver}
+use Rattle.code.proofs.Passing.{place-true, place-le, at-place, nodup-passing}
 use Rattle.code.proofs.Columns.{word-length}
 use Rattle.code.proofs.Word.{length-word}
-use Rattle.code.proofs.Checks.{Accepted, symbol-of-good}
+use Rattle.code.proofs.Checks.{Accepted, symbol-of-good, value-of-good}
 
 pub length-upTo : (n : ℕ) → length (upTo n) ≡ n
 unfolding passing
@@ -62,3 +64,23 @@ encodable q m message word curve l h =
       symbols = accepted-symbols q curve (size q m) message (q * q * q) (length word) h;
       room = h .fits ∙ sym n;
     }
+
+pub broken-over : (q m : ℕ) (word : List ℕ) (writes room : ℕ) → IsCurve q → m < q * q * q → Accepted true (q * q) (q * q * q) word writes room
+    → BrokenOver q (columnsOf q) m word
+broken-over q m word writes room curve l h =
+    let z = sizes q curve in
+    let n = full-places q curve in
+    record {
+      over = full-columns q curve;
+      few = omega (arith, length-upTo (q * q), z .symbols);
+      order = omega arith;
+      long = h .long ∙ sym n;
+      value = λ p b. ⊎-elim inl (λ k. inr (omega (arith, z .size))) (value-of-good (q * q) (getD word p 0) (h .good p b));
+    }
+
+-- k is less than 64
+pub size-short : (q : ℕ) → IsCurve q → (m : ℕ) → m < q * q * q → size q m < 64
+unfolding passing
+size-short =
+    each-curve (λ q. (m : ℕ) → m < q * q * q → size q m < 64)
+    (λ m l. omega (arith, place-le (isTerm 2) (suc m) 8 l)) (λ m l. omega (arith, place-le (isTerm 4) (suc m) 64 l))

@@ -19,3 +19,7 @@ pub mod Fitting
 pub mod Facts
 pub mod Equations
 pub mod Collecting
+pub mod Exponents
+pub mod Readings
+pub mod Recoveries
+pub mod ReadingSystems

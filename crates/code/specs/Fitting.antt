@@ -9,10 +9,15 @@ use Rattle.field.specs.Tests.{every}
 use Rattle.poly.specs.Lists.{filter}
 use Rattle.poly.specs.Messages.{all}
 
+-- a whole word agrees with a broken one at every place that isn't 255
+unfoldable pub agrees : List ℕ → List ℕ → Bool
+unfolding every
+agrees broken whole = every (length broken) (λ p. eqb (getD broken p 0) 255 || eqb (getD whole p 0) (getD broken p 0))
+
 -- `word` gives each message its word
 unfoldable pub fits : (List ℕ → List ℕ) → List ℕ → List ℕ → Bool
-unfolding every
-fits word broken message = every (length broken) (λ p. eqb (getD broken p 0) 255 || eqb (getD (word message) p 0) (getD broken p 0))
+unfolding agrees
+fits word broken message = agrees broken (word message)
 
 -- the messages, lists of k symbols, that fit
 unfoldable pub fitting : (Q k : ℕ) → (List ℕ → List ℕ) → List ℕ → List (List ℕ)

@@ -4,12 +4,15 @@ use mathlib.Core.List.{List}
 use mathlib.Core.Logic.{_⊎_, _↔_}
 use mathlib.Core.Path.{_≡_}
 use Prim.Native.Nat.{ℕ, _+_, _*_, _≤_, _<_}
+use lib.Dec.{T}
 use lib.ListN.{length, getD}
 use Rattle.field.proofs.Fields.{fieldOf}
+use Rattle.poly.specs.Messages.{Vector}
 use Rattle.poly.specs.Linear.{entry, dot}
-use Rattle.poly.specs.Systems.{flat, Satisfies, rank, WellFormed}
+use Rattle.poly.specs.Systems.{flat, Satisfies, rank, WellFormed, Solves}
 use Rattle.code.specs.Terms.{weights, size}
-use Rattle.code.specs.Word.{monomial}
+use Rattle.code.specs.Word.{monomial, wordOf}
+use Rattle.code.specs.Fitting.{fits}
 use Rattle.code.specs.Columns.{Columns}
 use Rattle.code.specs.Rows.{rowOf}
 use Rattle.code.specs.declared.recovery.Progress.{Progress}
@@ -63,3 +66,12 @@ pub record Gathered (q : ℕ) (columns : List ℕ) (m : ℕ) (word work : List �
 abbrev pub Ended : ℕ → List ℕ → ℕ → List ℕ → List ℕ → Bool → ℕ → Type 0
 Ended q columns m word work true r = (v : ℕ → ℕ) → FitsBelow q columns m word (length word) v → ⊥
 Ended q columns m word work false r = Gathered q columns m word work r
+
+-- how a complete system ends: with its one solution, which fits, in the slice; or with the slice as it was, where that doesn't fit
+abbrev pub Finished : ℕ → List ℕ → ℕ → List ℕ → List ℕ → List ℕ → List ℕ → Bool → Type 0
+Finished q columns m word work message message′ true =
+    Solves (fieldOf q) (size q m) (flat 64 (size q m) work) message′ × (length message′ ≡ size q m) × T (fits (wordOf q columns m) word message′)
+Finished q columns m word work message message′ false =
+    (message′ ≡ message)
+    × ((v : List ℕ) → Vector (fieldOf q .size) (size q m) v → Satisfies (fieldOf q) (size q m) (flat 64 (size q m) work) (entry v)
+    → T (fits (wordOf q columns m) word v) → ⊥)

@@ -8,13 +8,21 @@ ghost use Rattle.field.specs.Power.{power};
 ghost use Rattle.field.proofs.Fields.{fieldOf};
 ghost use Rattle.poly.specs.Ranges.{writes};
 ghost use Rattle.poly.specs.Linear.{entry};
-ghost use Rattle.poly.specs.Systems.{flat, WellFormed, Brought};
+ghost use Rattle.poly.specs.Systems.{flat, Full, WellFormed, Brought, Solves};
 ghost use Rattle.code.specs.Terms.{size};
 ghost use Rattle.code.specs.Columns.{Columns};
 ghost use Rattle.code.specs.Rows.{equationOf};
-ghost use Rattle.code.specs.Recovering.{EquationAt, BrokenOver, Advanced, Ended};
+ghost use Rattle.code.specs.Recovering.{EquationAt, BrokenOver, Advanced, Ended, Finished};
+ghost use Rattle.code.specs.Word.{wordOf};
+ghost use Rattle.code.specs.Fitting.{agrees, fits};
+ghost use Rattle.code.specs.Answers.{answered};
+ghost use Rattle.code.specs.Recovered.{reading, told, recovered};
+use crate::check;
+use crate::encoding;
 use crate::point;
 use crate::term;
+use field::Outcome;
+use poly::rows;
 use poly::system;
 use poly::system::Effect;
 
@@ -138,4 +146,125 @@ fn collect(q: u8, columns: &[u8], m: usize, k: usize, word: &[u8], work: &mut [u
         p += 1;
     }
     Progress { clash: false, rank }
+}
+
+// Whether a whole word agrees with a broken one at every place that isn't 255.
+fn agrees(broken: &[u8], whole: &[u8]) -> bool
+    requires { ⌜ length (now whole) ≡ length (now broken) ⌝ }
+    ensures { λ r. ⌜ r ≡ agrees (now (broken .entry)) (now (whole .entry)) ⌝ }
+{
+    let mut p = 0;
+    while p < broken.len() {
+        let s = broken[p];
+        if s != 255 {
+            if whole[p] != s {
+                return false;
+            }
+        }
+        p += 1;
+    }
+    true
+}
+
+// The one message of a complete system, and whether its word, written into again, fits.
+fn settle(
+    q: u8,
+    columns: &[u8],
+    m: usize,
+    k: usize,
+    word: &[u8],
+    work: &[u8],
+    candidate: &mut [u8],
+    again: &mut [u8],
+) -> bool
+    requires { ⌜ BrokenOver q (now columns) m (now word) × (k ≡ size q m) ⌝ }
+    requires { ⌜ WellFormed (fieldOf q) 64 (size q m) (now work) × Full (size q m) (flat 64 (size q m) (now work)) ⌝ }
+    requires { ⌜ (length (now candidate) ≡ size q m) × (length (now again) ≡ length (now word)) ⌝ }
+    ensures { λ r. ⌜ Solves (fieldOf q) (size q m) (flat 64 (size q m) (now (work .entry))) (now (candidate .exit)) ⌝ }
+    ensures { λ r. ⌜ r ≡ fits (wordOf q (now (columns .entry)) m) (now (word .entry)) (now (candidate .exit)) ⌝ }
+{
+    system::solve(q, 64, k, work, candidate);
+    encoding::write_word(q, columns, m, candidate, again);
+    agrees(word, again)
+}
+
+// Writes the message of a complete system if it fits.
+fn finish(
+    q: u8,
+    columns: &[u8],
+    m: usize,
+    k: usize,
+    word: &[u8],
+    work: &[u8],
+    message: &mut [u8],
+) -> bool
+    requires { ⌜ BrokenOver q (now columns) m (now word) × (k ≡ size q m) × (length (now message) ≡ size q m) ⌝ }
+    requires { ⌜ WellFormed (fieldOf q) 64 (size q m) (now work) × Full (size q m) (flat 64 (size q m) (now work)) ⌝ }
+    ensures { λ r. ⌜ Finished q (now (columns .entry)) m (now (word .entry)) (now (work .entry)) (now (message .entry)) (now (message .exit)) r ⌝ }
+{
+    let n = word.len();
+    let mut candidate = [0u8; 64];
+    let mut again = [0u8; 64];
+    let fits = settle(
+        q,
+        columns,
+        m,
+        k,
+        word,
+        work,
+        &mut candidate[..k],
+        &mut again[..n],
+    );
+    if fits {
+        rows::copy(k, &candidate, message);
+    }
+    fits
+}
+
+// What the symbols of a broken word say: no message, this one, or several.
+fn recover_over(
+    q: u8,
+    columns: &[u8],
+    m: usize,
+    k: usize,
+    word: &[u8],
+    message: &mut [u8],
+) -> Outcome
+    requires { ⌜ BrokenOver q (now columns) m (now word) × (k ≡ size q m) × (length (now message) ≡ size q m) × (size q m < 64) ⌝ }
+    ensures { λ r. ⌜ told (reading (fieldOf q .size) (size q m) (wordOf q (now (columns .entry)) m) (now (word .entry))) (now (message .entry)) ≡ answered r (now (message .exit)) ⌝ }
+{
+    let mut work = [0u8; 4096];
+    let r = collect(q, columns, m, k, word, &mut work);
+    if r.clash {
+        return Outcome::NoMessage;
+    }
+    if r.rank < k {
+        return Outcome::Several((k - r.rank) as u8);
+    }
+    if finish(q, columns, m, k, word, &work, message) {
+        Outcome::Done
+    } else {
+        Outcome::NoMessage
+    }
+}
+
+// The message that alone fits a broken word, 255 standing for each missing symbol.
+pub fn recover(q: u8, m: u8, word: &[u8], message: &mut [u8]) -> Outcome
+    ensures { λ r. ⌜ recovered q m (now (word .entry)) (now (message .entry)) ≡ answered r (now (message .exit)) ⌝ }
+{
+    let order = m as usize;
+    let first = check::order(q, order);
+    let Outcome::Done = first else {
+        return first;
+    };
+    let symbols = q * q;
+    let c = symbols as usize;
+    let n = c * (q as usize);
+    let k = term::size(q, order);
+    let second = check::slices(true, symbols, n, word, k, message.len());
+    let Outcome::Done = second else {
+        return second;
+    };
+    let columns = point::columns();
+    recover_over(q, &columns[..c], order, k, word, message)
 }

@@ -41,3 +41,4 @@ pub mod Joins
 pub mod Divisions
 pub mod Interpolants
 pub mod Elimination
+pub mod Sets

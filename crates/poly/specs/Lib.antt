@@ -6,3 +6,4 @@ pub mod Linear
 pub mod Rows
 pub mod Systems
 pub mod Interpolation
+pub mod Sets

@@ -16,7 +16,7 @@ use Rattle.field.specs.Curve.{isCurve, IsCurve}
 use Rattle.field.specs.Outcomes.{number, refuse}
 use Rattle.field.specs.declared.outcome.Outcome.{Outcome}
 use Rattle.field.specs.declared.outcome.Outcome.the-variants.{Done, BadCurve, BadOrder, BadLength, BadValue, BadRoom}
-use Rattle.field.proofs.Curves.{curve-of-true}
+use Rattle.field.proofs.Curves.{curve-true, curve-of-true}
 use Rattle.field.proofs.Outcomes.{passed}
 use Rattle.poly.proofs.Bools.{true-or-false}
 use Rattle.code.specs.Checks.{orderChecks, badValue, firstBad, valueCheck, sliceChecks}
@@ -92,13 +92,30 @@ module _ (bad : ℕ → Bool) where
 
 -- ---- rows of checks
 
--- what the checks 1 and 2 say when they come out Done
-pub order-done : (q m : ℕ) → orderChecks q m Done ≡ Done → IsCurve q × (m < q * q * q)
+-- what it says that the checks 1 and 2 and all that follows come out Done
+pub order-rest : (q m : ℕ) (rest : Outcome) → orderChecks q m rest ≡ Done → IsCurve q × (m < q * q * q) × (rest ≡ Done)
 unfolding orderChecks
-order-done q m e =
-    let a = passed (not (isCurve q)) (refuse (leb (q * q * q) m) BadOrder Done) BadCurve (λ p. omega (arith, ap number p)) e in
-    let b = passed (leb (q * q * q) m) Done BadOrder (λ p. omega (arith, ap number p)) (a .1) in
-    (curve-of-true q (not-false (isCurve q) (a .0)), leb-false (q * q * q) m (b .0))
+order-rest q m rest e =
+    let a = passed (not (isCurve q)) (refuse (leb (q * q * q) m) BadOrder rest) BadCurve (λ p. omega (arith, ap number p)) e in
+    let b = passed (leb (q * q * q) m) rest BadOrder (λ p. omega (arith, ap number p)) (a .1) in
+    (curve-of-true q (not-false (isCurve q) (a .0)), leb-false (q * q * q) m (b .0), b .1)
+
+pub order-done : (q m : ℕ) → orderChecks q m Done ≡ Done → IsCurve q × (m < q * q * q)
+order-done q m e = let w = order-rest q m Done e in (w .0, w .1)
+
+-- how the tests of the code decide 1 and 2
+module _ (q m : ℕ) (rest : Outcome) where
+  pub order-curve : isCurve q ≡ false → orderChecks q m rest ≡ BadCurve
+  unfolding orderChecks
+  order-curve e = rw e
+
+  pub order-high : IsCurve q → q * q * q ≤ m → orderChecks q m rest ≡ BadOrder
+  unfolding orderChecks
+  order-high c l = rw (curve-true q c, le-leb (q * q * q) m l)
+
+  pub order-passed : IsCurve q → m < q * q * q → orderChecks q m rest ≡ rest
+  unfolding orderChecks
+  order-passed c l = rw (curve-true q c, lt-leb (q * q * q) m l)
 
 -- and what 3, 4 and 5 say
 pub record Accepted (gaps : Bool) (Q takes : ℕ) (input : List ℕ) (writes room : ℕ) : Type 0 where

@@ -44,6 +44,10 @@ sizes =
     (record { low = omega arith; high = omega arith; symbols = omega arith; points = omega arith; grid = refl; size = refl })
     (record { low = omega arith; high = omega arith; symbols = omega arith; points = omega arith; grid = refl; size = refl })
 
+-- a field has two symbols at least
+pub two-symbols : (q : ℕ) → IsCurve q → 1 < q * q
+two-symbols = each-curve (λ q. 1 < q * q) (omega arith) (omega arith)
+
 -- a symbol of any q, a curve's number or not, is below 16
 pub size-le : (q : ℕ) → 2 ^ bitsOf q ≤ 16
 size-le q = go (eqb q 2)

@@ -1,13 +1,14 @@
 -- Checks in a row, and refusals as an arm of the code is told of them.
 -- Assumes nothing.
-use mathlib.Core.Bool.{Bool, true, false}
+use mathlib.Core.Bool.{Bool, true, false, cond}
 use mathlib.Core.List.{List, [], _∷_}
-use mathlib.Core.Path.{_≡_, refl}
+use mathlib.Core.Logic.{_↔_}
+use mathlib.Core.Path.{_≡_, refl, sym, _∙_}
 use Prim.Native.Nat.{ℕ}
 use lib.Dec.{eqb}
 use types.Run.{OneOf, miss}
 use denote.Enum.Declared.{tagOf}
-use Rattle.field.specs.Outcomes.{number, refuse}
+use Rattle.field.specs.Outcomes.{number, second, Says, refuse}
 use Rattle.field.specs.declared.outcome.Outcome.{Outcome}
 use Rattle.field.specs.declared.outcome.Outcome.the-variants.{Done, BadCurve, BadOrder, BadLength, BadValue, BadRoom, BadPlace, BadSymbol, Clash, NoMessage, Several}
 use Rattle.field.proofs.outcome.Outcome.{the-type}
@@ -16,6 +17,29 @@ use Rattle.field.proofs.outcome.Outcome.{the-type}
 pub passed : (t : Bool) (o r : Outcome) → (r ≡ Done → ⊥) → refuse t r o ≡ Done → (t ≡ false) × (o ≡ Done)
 passed true o r n e = absurd (n e)
 passed false o r n e = (refl, e)
+
+-- the two numbers tell the outcome
+outcomeOf : ℕ → ℕ → Outcome
+outcomeOf n s =
+    cond (eqb n 0) Done (cond (eqb n 1) BadCurve (cond (eqb n 2) BadOrder (cond (eqb n 3) BadLength (cond (eqb n 4) (BadValue s)
+    (cond (eqb n 5) BadRoom (cond (eqb n 6) BadPlace (cond (eqb n 7) BadSymbol (cond (eqb n 8) Clash (cond (eqb n 9) NoMessage (Several s))))))))))
+
+outcome-of : (o : Outcome) → outcomeOf (number o) (second o) ≡ o
+unfolding outcomeOf
+outcome-of Done = refl
+outcome-of BadCurve = refl
+outcome-of BadOrder = refl
+outcome-of BadLength = refl
+outcome-of (BadValue i) = refl
+outcome-of BadRoom = refl
+outcome-of BadPlace = refl
+outcome-of BadSymbol = refl
+outcome-of Clash = refl
+outcome-of NoMessage = refl
+outcome-of (Several n) = refl
+
+pub says : (o p : Outcome) → Says o (number p) (second p) ↔ (o ≡ p)
+says o p = (λ h. sym (outcome-of o) ∙ rw (h .0, h .1) (outcome-of p), λ e. rw e (refl, refl))
 
 -- the variants other than Done, by their tags: what the arm of the others is told
 abbrev pub refusals : List ℕ

@@ -1,5 +1,6 @@
 -- "Why a call is turned down": the two numbers of each outcome, and the order of the checks.
 use mathlib.Core.Bool.{Bool, true, false}
+use mathlib.Core.Path.{_≡_}
 use Prim.Native.Nat.{ℕ, _+_, _*_}
 use Rattle.field.specs.declared.outcome.Outcome.{Outcome}
 use Rattle.field.specs.declared.outcome.Outcome.the-variants.{Done, BadCurve, BadOrder, BadLength, BadValue, BadRoom, BadPlace, BadSymbol, Clash, NoMessage, Several}
@@ -31,6 +32,10 @@ second BadSymbol = 0
 second Clash = 0
 second NoMessage = 0
 second (Several r) = r
+
+-- an answer with these two numbers
+abbrev pub Says : Outcome → ℕ → ℕ → Type 0
+Says o n s = (number o ≡ n) × (second o ≡ s)
 
 -- "From C a call returns .. the refusal number times 65536 plus the second number."
 abbrev pub packed : Outcome → ℕ

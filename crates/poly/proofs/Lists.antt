@@ -10,7 +10,7 @@ use Prim.Native.Nat.{ℕ, zero, suc, _+_, _*_, _≤_, _<_, zero-le, suc-le-suc}
 use native.Mathlib.Nat.{zero-add, suc-add, zero-mul, suc-mul, add-mul}
 use native.Mathlib.Omega.{arith}
 use lib.Dec.{T, not-T}
-use lib.ListN.{length, getD, length-append}
+use lib.ListN.{length, getD, set, length-append}
 use Rattle.poly.specs.Lists.{oneIf, Nodup, count, without}
 
 pub oneIf-le : (b : Bool) → oneIf b ≤ 1
@@ -204,6 +204,11 @@ module _ {A B : Type 0} where
   getD-map f [] d e i h = absurd (omega arith)
   getD-map f (x ∷ xs) d e zero h = refl
   getD-map f (x ∷ xs) d e (suc i) h = getD-map f xs d e i (omega arith)
+
+  pub map-set : (f : A → B) (xs : List A) (i : ℕ) (x : A) → map f (set xs i x) ≡ set (map f xs) i (f x)
+  map-set f [] i x = refl
+  map-set f (y ∷ xs) zero x = refl
+  map-set f (y ∷ xs) (suc i) x = ap (λ (l : List B). f y ∷ l) (map-set f xs i x)
 
   pub mem-flatMap : (f : A → List B) {b : B} {a : A} (xs : List A) → Mem a xs → Mem b (f a) → Mem b (flatMap f xs)
   unfolding flatMap

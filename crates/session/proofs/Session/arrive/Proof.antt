@@ -1,0 +1,56 @@
+-- `session::Session::arrive` meets its contract: past the checks the place is one of the curve, and keeps what `keep` says.
+-- Assumes nothing.
+use mathlib.Core.Path.{sym, _∙_}
+use Prim.Native.Nat.{_<_}
+use native.Mathlib.Omega.{arith}
+use borrow.Author.Needs.{needs}
+use Rattle.field.proofs.Curves.{sizes}
+use Rattle.field.proofs.Outcomes.{not-done}
+use Rattle.session.proofs.Arrivals.{checked-place, arrived-refused, arrived-kept}
+use Rattle.session.proofs.Session.arrive.Statement.{statement}
+use Rattle.session.proofs.Session.arrive.Tie as tie
+
+-- the place is one of the 64
+inside : (c : tie.After-enum-told) → c .before .before .before .args .place < 64
+inside c =
+    let x = c .before .before .before .args in
+    let h = checked-place (x .t1) (x .place) (x .symbol) (sym (c .before .before .check .ensures) ∙ c .enum-told .given .1) in
+    omega (arith, h .1, sizes (x .t1 .q) (h .0) .points)
+
+check-requires : tie.Need-check-requires
+check-requires c κs = search needs
+
+enum-told : tie.Need-enum-told
+enum-told c = search needs
+
+element-copy-out-keep : tie.Need-element-copy-out-keep
+element-copy-out-keep c = inside c
+
+keep-requires : tie.Need-keep-requires
+keep-requires c κs = search needs
+
+element-write-self : tie.Need-element-write-self
+element-write-self c = inside (c .before .before)
+
+returns : tie.Need-returns
+returns c =
+    let told = c .before .before in
+    let x = told .before .before .before .args in
+    sym (arrived-kept (x .t1) (x .place) (x .symbol) (sym (told .before .before .check .ensures) ∙ told .enum-told .given .1) _ (c .keep .ensures))
+
+returns-2 : tie.Need-returns-2
+returns-2 c =
+    let x = c .before .before .args in
+    sym (arrived-refused (x .t1) (x .place) (x .symbol) _ (sym (c .before .check .ensures)) (not-done (c .before .check .result) (c .match .keys2)))
+
+pub arrive-spec : {M : Type 1} → statement M
+arrive-spec =
+    tie.close
+    (tie.spec
+    check-requires
+    enum-told
+    element-copy-out-keep
+    keep-requires
+    element-write-self
+    returns
+    returns-2)

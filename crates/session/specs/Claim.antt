@@ -1,0 +1,75 @@
+-- DEMAND 3: "a single claim about a whole list of arrivals and askings, the empty list too".
+use mathlib.Core.Path.{_≡_}
+use mathlib.Core.List.{List, [], _∷_, _++_}
+use mathlib.Core.Option.{none, some}
+use mathlib.Core.Logic.{_↔_}
+use Prim.Native.Nat.{ℕ, _+_, _*_, _^_, _≤_}
+use lib.Dec.{T}
+use lib.ListN.{length, getD}
+use Rattle.field.specs.Outcomes.{Says}
+use Rattle.poly.specs.Messages.{Vector}
+use Rattle.poly.specs.Sets.{Alone, TwoOrMore, Exactly}
+use Rattle.code.specs.Points.{columnsOf}
+use Rattle.code.specs.Terms.{size}
+use Rattle.code.specs.Word.{wordOf}
+use Rattle.code.specs.Answers.{Answer}
+use Rattle.session.specs.declared.Session.{Session}
+use Rattle.session.specs.Opened.{opened}
+use Rattle.session.specs.Arrived.{arrived}
+use Rattle.session.specs.Asked.{asked}
+use Rattle.session.specs.Slate.{Slate, blankSlate, takes, after, held}
+
+-- "Arrivals have any place and symbol, and each asking is lent a slice of any length."
+pub data Event : Type 0 where
+  Arrival : ℕ → ℕ → Event
+  Asking : List ℕ → Event
+
+-- "An asking, refused or not, leaves the slate as it was."
+unfoldable pub slateFrom : ℕ → Slate → List Event → Slate
+slateFrom q slate [] = slate
+slateFrom q slate (Arrival p s ∷ rest) = slateFrom q (after q slate p s) rest
+slateFrom q slate (Asking slice ∷ rest) = slateFrom q slate rest
+
+abbrev pub slateAfter : ℕ → List Event → Slate
+slateAfter q events = slateFrom q (blankSlate q) events
+
+-- "Each call, the asking after the list too, gets the session that the last arrival before it handed back, accepted or refused, or else
+-- the opened one."
+unfoldable pub sessionFrom : Session → List Event → Session
+sessionFrom session [] = session
+sessionFrom session (Arrival p s ∷ rest) = sessionFrom (arrived session p s .session) rest
+sessionFrom session (Asking slice ∷ rest) = sessionFrom session rest
+
+abbrev pub sessionAfter : (q m : ℕ) → List Event → Session
+sessionAfter q m events = sessionFrom (opened q m .session) events
+
+module _ (q m : ℕ) where
+  -- "A message is k symbols." "A message fits the slate if its word has the slate's symbol at every place of the slate that holds one."
+  pub record FitsSlate (slate : Slate) (v : List ℕ) : Type 0 where
+    pub symbols : Vector (q * q) (size q m) v
+    pub agree : (p s : ℕ) → getD slate p none ≡ some s → getD (wordOf q (columnsOf q) m v) p 0 ≡ s
+
+  -- what asking answers after the events
+  abbrev pub answer : List Event → List ℕ → Answer
+  answer events slice = asked (sessionAfter q m events) slice
+
+  -- THE CLAIM on a list of events, of the session that `opened q m` gave.
+  -- "It gives a message when it answers 0 and 0 with that message in the slice, it says 'none' by refusal 9 with 0, and 'several' by
+  -- refusal 10 with r."
+  pub record Claim (events : List Event) : Type 0 where
+    -- "each arrival in it is accepted exactly when document 01's slate takes it"
+    pub arrival : (before rest : List Event) (p s : ℕ) → events ≡ before ++ (Arrival p s ∷ rest)
+        → Says (arrived (sessionAfter q m before) p s .outcome) 0 0 ↔ T (takes q (slateAfter q before) p s)
+    -- "after the list the reader, asked with a slice of the right length, gives a message exactly when it alone fits all symbols then on
+    -- the slate"
+    pub gives : (slice : List ℕ) → length slice ≡ size q m → (v : List ℕ)
+        → (Says (answer events slice .outcome) 0 0 × (answer events slice .slice ≡ v)) ↔ Alone (FitsSlate (slateAfter q events)) v
+    -- "it says 'none' exactly when no message fits them"
+    pub says-none : (slice : List ℕ) → length slice ≡ size q m
+        → Says (answer events slice .outcome) 9 0 ↔ ((v : List ℕ) → FitsSlate (slateAfter q events) v → ⊥)
+    -- "it says 'several' exactly when two or more fit, with the r for which just Q to the power r fit"
+    pub says-several : (slice : List ℕ) → length slice ≡ size q m → (r : ℕ)
+        → Says (answer events slice .outcome) 10 r
+        ↔ (TwoOrMore (FitsSlate (slateAfter q events)) × Exactly ((q * q) ^ r) (FitsSlate (slateAfter q events)))
+    -- "Whenever m + 1 places of the slate hold a symbol, it never says 'several'": with a slice of any length
+    pub sure : m + 1 ≤ held (slateAfter q events) → (slice : List ℕ) (r : ℕ) → Says (answer events slice .outcome) 10 r → ⊥

@@ -1,0 +1,6 @@
+pub mod Opened
+pub mod Arrived
+pub mod Asked
+pub mod Slate
+pub mod Claim
+pub mod Replayed

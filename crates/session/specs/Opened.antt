@@ -1,0 +1,20 @@
+-- Opening, for every argument.
+use mathlib.Core.Bool.{cond}
+use Prim.Native.Nat.{ℕ}
+use lib.Dec.{eqb}
+use lib.ListN.{replicate}
+use Rattle.field.specs.Outcomes.{number}
+use Rattle.field.specs.declared.outcome.Outcome.the-variants.{Done}
+use Rattle.code.specs.Checks.{orderChecks}
+use Rattle.session.specs.declared.Session.{Session}
+use Rattle.session.specs.declared.Turn.{Turn}
+
+-- "A session holds q, m and 64 places. Opening marks all 64 missing."
+abbrev pub fresh : ℕ → ℕ → Session
+fresh q m = record { q = q; m = m; places = replicate 64 255 }
+
+-- 1, 2. "A refused opening hands back q = 2, m = 0, all places 255."
+unfoldable pub opened : ℕ → ℕ → Turn
+opened q m =
+    let outcome = orderChecks q m Done in
+    record { session = cond (eqb (number outcome) 0) (fresh q m) (fresh 2 0); outcome = outcome }

@@ -10,13 +10,13 @@ use lib.Dec.{eqb}
 use lib.ListN.{length}
 use types.Run.{OneOf}
 use denote.Enum.Declared.{tagOf}
-use Rattle.field.specs.Outcomes.{number}
+use Rattle.field.specs.Outcomes.{number, packed}
 use Rattle.field.specs.declared.outcome.Outcome.{Outcome}
 use Rattle.field.specs.declared.outcome.Outcome.the-variants.{Done}
 use Rattle.field.proofs.Outcomes.{refusals, not-done}
 use Rattle.field.proofs.outcome.Outcome.{the-type}
 use Rattle.code.specs.Checks.{orderChecks, sliceChecks}
-use Rattle.code.specs.Answers.{Answer, answered, unlessRefused}
+use Rattle.code.specs.Answers.{Answer, answered, unlessRefused, Packed}
 use Rattle.code.proofs.Checks.{order-follows, slices-follow}
 
 -- a refusal, as the arm that returns it is told of it
@@ -54,3 +54,26 @@ module _ (q m : ℕ) (o : Outcome) (e : o ≡ orderChecks q m Done) (slice : Lis
     -- none does
     pub accepted : p ≡ Done → unlessRefused (orderChecks q m (sliceChecks gaps Q takes input writes room Done)) slice answer ≡ answer
     accepted g = not-refused checked slice answer (past-order (sliceChecks gaps Q takes input writes room Done) ∙ sym f ∙ g)
+
+-- an answer that is known by its outcome, packed
+pub to-packed : (answer : Answer) (o : Outcome) (slice : List ℕ) (returned : ℕ) → answer ≡ answered o slice → returned ≡ packed o
+    → Packed answer returned slice
+to-packed answer o slice returned is e = rw is (e, refl)
+
+-- a call over both rows of checks that answers Done is past them
+module _ (q m : ℕ) (gaps : Bool) (Q takes : ℕ) (input : List ℕ) (writes room : ℕ) where
+  abbrev both : Outcome
+  both = orderChecks q m (sliceChecks gaps Q takes input writes room Done)
+
+  decided : (both ≡ Done) ⊎ (eqb (number both) 0 ≡ false)
+  decided =
+      let S = sliceChecks gaps Q takes input writes room Done in
+      ⊎-elim
+      (λ a. ⊎-elim (λ b. inl (a .1 ∙ b .0)) (λ b. inr (ap (λ (x : Outcome). eqb (number x) 0) (a .1) ∙ b .0))
+      (slices-follow gaps Q takes input writes room S Done refl))
+      (λ a. inr (ap (λ (x : Outcome). eqb (number x) 0) (a .1) ∙ a .0)) (order-follows q m (orderChecks q m Done) S refl)
+
+  pub past-checks : (slice v : List ℕ) (answer : Answer) → unlessRefused both slice answer ≡ answered Done v → (both ≡ Done) × (answer ≡ answered Done v)
+  past-checks slice v answer e =
+      ⊎-elim (λ d. (d, sym (not-refused both slice answer d) ∙ e))
+      (λ n. absurd (done-or-not both (ap (λ (a : Answer). a .outcome) (sym (refused both both slice answer refl n) ∙ e)) n)) decided

@@ -90,6 +90,11 @@ module _ (bad : ℕ → Bool) where
       go (inr t) ih zero k = t
       go (inr t) ih (suc i) k = ih (omega (arith, l, good-head x xs t)) i (omega arith)
 
+  -- and where no value is bad, it finds nothing
+  pub none-found : (list : List ℕ) → ((i : ℕ) → i < length list → bad (getD list i 0) ≡ false) → length list ≤ firstBad bad list
+  none-found [] h = omega arith
+  none-found (x ∷ xs) h = omega (arith, good-head x xs (h 0 (omega arith)), none-found xs (λ i l. h (suc i) (omega arith)))
+
 -- ---- rows of checks
 
 -- what it says that the checks 1 and 2 and all that follows come out Done
@@ -182,3 +187,9 @@ module _ (gaps : Bool) (Q takes : ℕ) (input : List ℕ) (writes room : ℕ) (r
 
     pub slices-passed : takes ≤ w → room ≡ writes → sliceChecks gaps Q takes input writes room rest ≡ rest
     slices-passed l g = past-length ∙ rw (le-ltb w (length input) (omega arith), eq-eqb room writes g)
+
+pub slices-accepted : (gaps : Bool) (Q takes : ℕ) (input : List ℕ) (writes room : ℕ) (rest : Outcome) → Accepted gaps Q takes input writes room
+    → sliceChecks gaps Q takes input writes room rest ≡ rest
+slices-accepted gaps Q takes input writes room rest h =
+    slices-passed gaps Q takes input writes room rest (h .long) (firstBad (badValue gaps Q) input) refl
+    (omega (arith, h .long, none-found (badValue gaps Q) input (h .good))) (h .fits)

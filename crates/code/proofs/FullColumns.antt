@@ -19,6 +19,7 @@ use Rattle.code.specs.Terms.{isTerm, size}
 use Rattle.code.specs.Columns.{Columns}
 use Rattle.code.specs.Encodable.{Encodable}
 use Rattle.code.specs.Recovering.{BrokenOver}
+use Rattle.code.specs.Readable.{Readable}
 use Rattle.code.proofs.Passing.{place-true, place-le, at-place, nodup-passing}
 use Rattle.code.proofs.Columns.{word-length}
 use Rattle.code.proofs.Word.{length-word}
@@ -84,3 +85,18 @@ unfolding passing
 size-short =
     each-curve (λ q. (m : ℕ) → m < q * q * q → size q m < 64)
     (λ m l. omega (arith, place-le (isTerm 2) (suc m) 8 l)) (λ m l. omega (arith, place-le (isTerm 4) (suc m) 64 l))
+
+pub readable : (q m : ℕ) (word message : List ℕ) → IsCurve q → m < q * q * q → Accepted false (q * q) (q * q * q) word (size q m) (length message)
+    → Readable q (columnsOf q) m word message
+readable q m word message curve l h =
+    let n = full-places q curve in
+    record {
+      whole = record {
+        over = full-columns q curve;
+        few = omega (arith, length-upTo (q * q), sizes q curve .symbols);
+        long = h .long ∙ sym n;
+        symbols = accepted-symbols q curve (q * q * q) word (size q m) (length message) h;
+      };
+      order = omega arith;
+      room = h .fits;
+    }

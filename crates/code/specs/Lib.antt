@@ -14,3 +14,4 @@ pub mod Columns
 pub mod Encodable
 pub mod Rows
 pub mod Recovering
+pub mod Readable

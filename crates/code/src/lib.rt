@@ -1,7 +1,9 @@
 // The curve, its words, and their encoding, unencoding and recovery.
+pub mod c_entries;
 pub mod check;
 pub mod encoding;
 pub mod grid;
 pub mod point;
 pub mod recovery;
 pub mod term;
+pub mod unencoding;

@@ -77,6 +77,10 @@ sum-extend m n f l =
     le-ind (λ (k : ℕ). ((i : ℕ) → m ≤ i → i < k → f i ≡ 0) → sum k f ≡ sum m f) (λ z. refl)
     (λ k l ih z. ap (plus (sum k f)) (z k l (le-refl (suc k))) ∙ plus-zero (sum k f) ∙ ih (λ i a b. z i a (omega arith))) n l
 
+-- equal terms, an even number of them
+pub sum-even : (h a : ℕ) → sum (h + h) (λ i. a) ≡ 0
+sum-even h a = sum-add h h (λ i. a) ∙ plus-self (sum h (λ i. a))
+
 -- all terms but one are zero
 pub sum-single : (n j : ℕ) (f : ℕ → ℕ) → j < n → ((i : ℕ) → i < n → (i ≡ j → ⊥) → f i ≡ 0) → sum n f ≡ f j
 unfolding sum

@@ -5,9 +5,10 @@ use mathlib.Core.Path.{_≡_, refl, ap₂}
 use Prim.Native.Nat.{ℕ, zero, suc, _≤_, _<_}
 use native.Mathlib.Decide.{decLt, ℕ-discrete}
 use native.Mathlib.Omega.{arith}
-use lib.ListN.{length, getD, set, replicate, getD-replicate, length-replicate, List·getD-eq-default}
+use lib.ListN.{length, getD, take, set, replicate, getD-replicate, length-replicate, List·getD-eq-default}
 use lib.Seq.{getD-set-same, getD-set-other, set-out}
 use Rattle.poly.specs.Ranges.{Below}
+use Rattle.poly.proofs.Parts.{below-take}
 
 abbrev pub zeros : ℕ → List ℕ
 zeros n = replicate n 0
@@ -18,6 +19,10 @@ getD-zeros n i =
       | yes l ↦ getD-replicate n i 0 0 l
       | no d ↦ List·getD-eq-default (replicate n 0) 0 (omega (arith, length-replicate {A = ℕ} n 0))
     ]
+
+-- some of the zeros
+pub take-zeros : (k n i : ℕ) → getD (take n (zeros k)) i 0 ≡ 0
+take-zeros k n i = omega (arith, below-take 1 (zeros k) n (λ i. rw (getD-zeros k i) (omega arith)) i)
 
 pub map-cong : (f g : ℕ → ℕ) (l : List ℕ) → ((y : ℕ) → f y ≡ g y) → map f l ≡ map g l
 map-cong f g [] h = refl

@@ -17,7 +17,7 @@ use Rattle.poly.specs.Rows.{stored}
 use Rattle.poly.specs.Polynomials.{value, product, vanishing, Vanishing}
 use Rattle.poly.specs.Interpolation.{strand, Multipliable, Multiplied, Raisable, Raised, Joinable, Combined}
 use Rattle.poly.proofs.Parts.{part-rest, below-part, below-take}
-use Rattle.poly.proofs.Entries.{zeros, getD-zeros}
+use Rattle.poly.proofs.Entries.{zeros, take-zeros}
 use Rattle.poly.proofs.Values.{value-cong, value-zeros}
 use Rattle.poly.proofs.Vanishings.{vanishing-value, vanishing-below}
 use Rattle.poly.proofs.Multiples.{stored-all}
@@ -109,7 +109,7 @@ pub zeros-length : (n : ℕ) → n ≤ 512 → length (take n (zeros 512)) ≡ n
 zeros-length n h = length-take-le n (zeros 512) h
 
 pub zeros-zero : (n i : ℕ) → getD (take n (zeros 512)) i 0 ≡ 0
-zeros-zero n i = omega (arith, below-take 1 (zeros 512) n (λ i. rw (getD-zeros 512 i) (omega arith)) i)
+zeros-zero n i = take-zeros 512 n i
 
 module _ (n : ℕ) (ys : List ℕ) (h : n ≤ 512) (l : length ys ≡ length (take n (zeros 512))) where
   pub back-length : length (ys ++ drop n (zeros 512)) ≡ 512

@@ -8,7 +8,7 @@ use Rattle.field.specs.Plus.{plus}
 use Rattle.field.specs.Field.{Field}
 use Rattle.field.specs.Power.{power}
 use Rattle.field.specs.Sum.{sum}
-use Rattle.field.proofs.Plus.{plus-comm, plus-zero}
+use Rattle.field.proofs.Plus.{plus-assoc, plus-comm, plus-zero}
 use Rattle.field.proofs.FieldLaws.{zero-lt, zero-times, plus-times, times-left-comm, times-one-right}
 use Rattle.field.proofs.Powers.{power-zero, power-suc, power-add}
 use Rattle.field.proofs.Sums.{sum-none, sum-suc, sum-cong, sum-zeros, sum-plus, sum-swap, sum-first, sum-add, sum-extend, sum-scale, sum-scale-right, sum-lt}
@@ -55,6 +55,12 @@ module _ (F : Field) where
       sum-cong n (term (λ i. F .times a (f i)) x) (λ i. F .times a (term f x i)) (λ i l. F .times-assoc a (f i) (power F x i))
       ∙ sum-scale F n a (term f x)
 
+  pub value-sum : (n m : ℕ) (f : ℕ → ℕ → ℕ) (x : ℕ) → value F n (λ i. sum m (λ u. f u i)) x ≡ sum m (λ u. value F n (f u) x)
+  unfolding value
+  value-sum n m f x =
+      sum-cong n _ (λ i. sum m (λ u. term (f u) x i)) (λ i l. sym (sum-scale-right F m (power F x i) (λ u. f u i)))
+      ∙ sum-swap n m (λ i u. term (f u) x i)
+
   pub value-extend : (m n : ℕ) (f : ℕ → ℕ) (x : ℕ) → m ≤ n → ((i : ℕ) → m ≤ i → i < n → f i ≡ 0) → value F n f x ≡ value F m f x
   unfolding value
   value-extend m n f x l h =
@@ -94,6 +100,15 @@ module _ (F : Field) where
       (λ i k. ap (F .times (f (suc i))) (power-suc F x i) ∙ times-left-comm F (f (suc i)) x (power F x i))
       ∙ sum-scale F n x (term (λ i. f (suc i)) x))
       ∙ plus-comm (f 0) (F .times x (sum n (term (λ i. f (suc i)) x)))
+
+  -- a constant more
+  pub value-constant : (n : ℕ) (f g : ℕ → ℕ) (c x : ℕ) → f 0 < F .size → c < F .size → g 0 ≡ plus (f 0) c → ((i : ℕ) → i < n → g (suc i) ≡ f (suc i))
+      → value F (suc n) g x ≡ plus (value F (suc n) f x) c
+  value-constant n f g c x fl cl e h =
+      value-first n g x (rw e (F .plus-lt (f 0) c fl cl))
+      ∙ ap₂ plus (ap (F .times x) (value-cong n (λ i. g (suc i)) (λ i. f (suc i)) x h)) e
+      ∙ sym (plus-assoc (F .times x (value F n (λ i. f (suc i)) x)) (f 0) c)
+      ∙ ap (λ (v : ℕ). plus v c) (sym (value-first n f x fl))
 
   -- f times (x - a)
   pub linear-shift : (a : ℕ) (f : ℕ → ℕ) (i : ℕ) → linear F a f i ≡ plus (F .times a (f i)) (shift f i)

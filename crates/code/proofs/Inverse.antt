@@ -1,0 +1,114 @@
+-- Encoding and unencoding are inverse to each other.
+-- Assumes nothing.
+use mathlib.Core.Bool.{false}
+use mathlib.Core.List.{List, [], _∷_, List·Memᴰ as Mem, List·Memᴰ·head as head}
+use mathlib.Core.Path.{_≡_, refl, sym, ap, _∙_}
+use Prim.Native.Nat.{ℕ, _*_, _<_}
+use native.Mathlib.Omega.{arith}
+use lib.ListN.{length, getD}
+use lib.Seq.{ext-getD}
+use Rattle.field.specs.Curve.{IsCurve}
+use Rattle.field.specs.Outcomes.{number}
+use Rattle.field.specs.declared.outcome.Outcome.the-variants.{Done, NoMessage}
+use Rattle.field.proofs.Curves.{sizes}
+use Rattle.poly.specs.Messages.{Vector}
+use Rattle.code.specs.Points.{columnsOf}
+use Rattle.code.specs.Terms.{size}
+use Rattle.code.specs.Word.{wordOf}
+use Rattle.code.specs.Fitting.{fitting}
+use Rattle.code.specs.Checks.{sliceChecks}
+use Rattle.code.specs.Answers.{Answer, answered}
+use Rattle.code.specs.Encoded.{encodeChecks, encoded}
+use Rattle.code.specs.Unencoded.{unencodeChecks, theMessage, unencoded}
+use Rattle.code.specs.Readable.{readOver}
+use Rattle.code.proofs.Checks.{Accepted, good-symbol, symbol-of-good, order-passed, order-rest, slices-accepted, slices-done}
+use Rattle.code.proofs.Answers.{not-refused, past-checks}
+use Rattle.code.proofs.Columns.{word-length}
+use Rattle.code.proofs.Word.{value-lt, pointAt, length-word, word-at-point}
+use Rattle.code.proofs.FullColumns.{full-columns, full-places, readable}
+use Rattle.code.proofs.Readings.{Fitting, fitting-list}
+use Rattle.code.proofs.WordGrids.{message-only, the-one}
+
+-- the first of the messages that have the word is one of them
+found : (l : List (List ℕ)) (slice v : List ℕ) → theMessage l slice ≡ answered Done v → Mem v l
+found [] slice v e = let o : NoMessage ≡ Done = ap (λ (a : Answer). a .outcome) e in absurd (omega (arith, ap number o))
+found (u ∷ rest) slice v e = head (sym (ap (λ (a : Answer). a .slice) e))
+
+module _ (q m : ℕ) (curve : IsCurve q) (order : m < q * q * q) where
+  encoded-word : (message word : List ℕ) → Accepted false (q * q) (size q m) message (q * q * q) (length word)
+      → encoded q m message word ≡ answered Done (wordOf q (columnsOf q) m message)
+  unfolding encoded
+  encoded-word message word h =
+      not-refused (encodeChecks q m message word) word (answered Done (wordOf q (columnsOf q) m message))
+      (order-passed q m (sliceChecks false (q * q) (size q m) message (q * q * q) (length word) Done) curve order
+      ∙ slices-accepted false (q * q) (size q m) message (q * q * q) (length word) Done h)
+
+  unencoded-read : (word slice : List ℕ) → Accepted false (q * q) (q * q * q) word (size q m) (length slice) → unencoded q m word slice ≡ readOver q (columnsOf q) m word slice
+  unfolding unencoded
+  unencoded-read word slice h =
+      not-refused (unencodeChecks q m word slice) slice (readOver q (columnsOf q) m word slice)
+      (order-passed q m (sliceChecks false (q * q) (q * q * q) word (size q m) (length slice) Done) curve order
+      ∙ slices-accepted false (q * q) (q * q * q) word (size q m) (length slice) Done h)
+
+  message-accepted : (message word : List ℕ) → Vector (q * q) (size q m) message → length word ≡ q * q * q → Accepted false (q * q) (size q m) message (q * q * q) (length word)
+  message-accepted message word h e =
+      record { long = h .len; good = λ i l. good-symbol false (q * q) (getD message i 0) (h .small i (omega (arith, h .len))); fits = e }
+
+  -- a word has n symbols
+  places : (message : List ℕ) → length (wordOf q (columnsOf q) m message) ≡ q * q * q
+  places message = word-length q m curve message (columnsOf q) (full-columns q curve .small) ∙ full-places q curve
+
+  word-accepted : (message slice : List ℕ) → length slice ≡ size q m → Accepted false (q * q) (q * q * q) (wordOf q (columnsOf q) m message) (size q m) (length slice)
+  word-accepted message slice e =
+      record {
+        long = places message;
+        good = λ p l. good-symbol false (q * q) (getD (wordOf q (columnsOf q) m message) p 0)
+            (omega (
+              arith,
+              word-at-point q (columnsOf q) m message p (omega (arith, length-word q (columnsOf q) m message)),
+              value-lt q m message (pointAt q (columnsOf q) p .0) (pointAt q (columnsOf q) p .1),
+              sizes q curve .size,
+            ));
+        fits = e;
+      }
+
+  -- a message has its word
+  has-own : (message : List ℕ) → Vector (q * q) (size q m) message
+      → Fitting (q * q) (size q m) (wordOf q (columnsOf q) m) (wordOf q (columnsOf q) m message) message
+  has-own message h = record { vector = h; fits = record { at = λ p l n. refl } }
+
+  -- ENCODING, THEN UNENCODING, whatever the two slices held before
+  pub unencode-encode : (message word slice : List ℕ) → Vector (q * q) (size q m) message → length word ≡ q * q * q → length slice ≡ size q m
+      → (encoded q m message word ≡ answered Done (wordOf q (columnsOf q) m message))
+      × (unencoded q m (encoded q m message word .slice) slice ≡ answered Done message)
+  unencode-encode message word slice h a b =
+      let W = wordOf q (columnsOf q) m message in
+      let r = readable q m W slice curve order (word-accepted message slice b) in
+      let e = encoded-word message word (message-accepted message word h a) in (
+        e,
+        ap (λ (x : Answer). unencoded q m (x .slice) slice) e ∙ unencoded-read W slice (word-accepted message slice b)
+            ∙ the-one (Fitting (q * q) (size q m) (wordOf q (columnsOf q) m) W) slice (fitting (q * q) (size q m) (wordOf q (columnsOf q) m) W)
+            (fitting-list (q * q) (size q m) (wordOf q (columnsOf q) m) W) message (has-own message h)
+            (λ u k. message-only q (columnsOf q) W (r .whole) m (r .order) u message k (has-own message h)),
+      )
+
+  has-word : (word slice : List ℕ) → Accepted false (q * q) (q * q * q) word (size q m) (length slice) → (message : List ℕ)
+      → Fitting (q * q) (size q m) (wordOf q (columnsOf q) m) word message → wordOf q (columnsOf q) m message ≡ word
+  has-word word slice h message k =
+      ext-getD 0 (wordOf q (columnsOf q) m message) word (places message ∙ sym (h .long))
+      (λ p l. let b : p < length word = omega (arith, places message, h .long) in
+      k .fits .at p b (λ e. omega (arith, symbol-of-good (q * q) (getD word p 0) (h .good p b), sizes q curve .symbols)))
+
+-- UNENCODING, THEN ENCODING: what is unencoded without a refusal is a message, and has the word
+pub encode-unencode : (q m : ℕ) (word slice message room : List ℕ) → unencoded q m word slice ≡ answered Done message → length room ≡ q * q * q
+    → Vector (q * q) (size q m) message × (encoded q m message room ≡ answered Done word)
+unfolding unencoded
+encode-unencode q m word slice message room e long =
+    let past = past-checks q m false (q * q) (q * q * q) word (size q m) (length slice) slice message (readOver q (columnsOf q) m word slice) e in
+    let (curve, order, d) = order-rest q m (sliceChecks false (q * q) (q * q * q) word (size q m) (length slice) Done) (past .0) in
+    let h = slices-done false (q * q) (q * q * q) word (size q m) (length slice) d in
+    let k = fitting-list (q * q) (size q m) (wordOf q (columnsOf q) m) word .sound message (found (fitting (q * q) (size q m) (wordOf q (columnsOf q) m) word) slice message (past .1)) in (
+      k .vector,
+      encoded-word q m curve order message room (message-accepted q m curve order message room (k .vector) long)
+          ∙ ap (answered Done) (has-word q m curve order word slice h message k),
+    )

@@ -1,0 +1,179 @@
+-- The grid of a word: the one that takes the word's value at every point of the columns. Interpolation leaves it; a message has the word exactly
+-- where its coefficients, laid out, are that grid; so the test of the weights says whether a message has the word, and the grid which.
+-- Assumes nothing.
+use mathlib.Core.Bool.{Bool, true, false}
+use mathlib.Core.List.{List, [], _∷_, List·Memᴰ·head as head, List·Memᴰ·not-nil as not-nil}
+use mathlib.Core.Path.{_≡_, refl, sym, ap, _∙_}
+use Prim.Native.Nat.{ℕ, suc, _+_, _*_, _<_}
+use native.Mathlib.Omega.{arith}
+use lib.ListN.{length, getD}
+use Rattle.field.proofs.Fields.{fieldOf}
+use Rattle.field.proofs.FieldLaws.{zero-lt}
+use Rattle.field.proofs.Curves.{sizes}
+use Rattle.field.specs.declared.outcome.Outcome.the-variants.{Done, NoMessage}
+use Rattle.poly.specs.Messages.{Vector}
+use Rattle.poly.specs.Sets.{ListOf}
+use Rattle.poly.specs.Ranges.{Below}
+use Rattle.poly.specs.Polynomials.{value}
+use Rattle.poly.specs.Interpolation.{strand, Interpolated}
+use Rattle.poly.proofs.Lists.{getD-map, each-mem}
+use Rattle.poly.proofs.Messages.{below-vector, vector-below}
+use Rattle.poly.proofs.Values.{value-cong, value-lt}
+use Rattle.poly.proofs.Roots.{value-unique}
+use Rattle.poly.proofs.Strands.{place-lt}
+use Rattle.poly.proofs.Interpolants.{at-column, strands-unique}
+use Rattle.poly.proofs.Blocks.{blocks-ext}
+use Rattle.code.specs.Points.{ysOf}
+use Rattle.code.specs.Terms.{weights, size}
+use Rattle.code.specs.Word.{wordOf}
+use Rattle.code.specs.Grid.{entryOf, scatter, gather, orderAtMost}
+use Rattle.code.specs.Fitting.{fitting}
+use Rattle.code.specs.Answers.{answered}
+use Rattle.code.specs.Unencoded.{theMessage}
+use Rattle.code.specs.Readable.{WordOver, ColumnsInterpolated, readOver}
+use Rattle.code.proofs.GridEntries.{length-scatter, length-gather, gather-scatter}
+use Rattle.code.proofs.GridLaw.{two-stages}
+use Rattle.code.proofs.Order.{within-scatter, within-message}
+use Rattle.code.proofs.Columns.{length-ys, word-at, word-length}
+use Rattle.code.proofs.Points.{nodup-ys}
+use Rattle.code.proofs.Stages.{columns-below, symbols-scatter, ys-below}
+use Rattle.code.proofs.Fitting.{Fits}
+use Rattle.code.proofs.Readings.{Fitting, fitting-list}
+
+-- the polynomial of a grid at the y number s of column t
+abbrev pub gridValue : ℕ → List ℕ → List ℕ → ℕ → ℕ → ℕ
+gridValue q columns grid t s = value (fieldOf q) q (at-column (fieldOf q) q columns grid t) (getD (ysOf q (getD columns t 0)) s 0)
+
+pub record GridOf (q : ℕ) (columns word grid : List ℕ) : Type 0 where
+  pub long : length grid ≡ q * length columns
+  pub symbols : Below (fieldOf q .size) grid
+  pub is : (t s : ℕ) → t < length columns → s < q → gridValue q columns grid t s ≡ getD word (q * t + s) 0
+
+-- the coefficients of a grid of symbols are symbols
+pub vector-gather : (q m b : ℕ) (grid : List ℕ) → Below b grid → Vector b (size q m) (gather q m grid)
+unfolding gather
+vector-gather q m b grid h =
+    record {
+      len = length-gather q m grid;
+      small = λ i l. rw (getD-map (λ w. getD grid (entryOf q w) 0) (weights q m) 0 0 i l) (h (entryOf q (getD (weights q m) i 0)));
+    }
+
+module _ (q : ℕ) (columns word : List ℕ) (w : WordOver q columns word) where
+  -- interpolation in y, then in x, leaves it
+  pub grid-of : (rows grid : List ℕ) → ColumnsInterpolated q columns word rows (length columns) → length grid ≡ length word
+      → Interpolated (fieldOf q) q columns rows grid → GridOf q columns word grid
+  grid-of rows grid first long second =
+      record {
+        long = long ∙ w .long;
+        symbols = second .below;
+        is = λ t s a b. value-cong (fieldOf q) q (at-column (fieldOf q) q columns grid t) (λ j. strand q rows j t) (getD (ysOf q (getD columns t 0)) s 0)
+            (λ j k. second .is j t k a) ∙ first .is t s a b;
+      }
+
+  -- there is no other
+  pub grid-only : (a b : List ℕ) → GridOf q columns word a → GridOf q columns word b → a ≡ b
+  grid-only a b ha hb =
+      strands-unique (fieldOf q) q columns (columns-below q columns (w .over)) (w .over .distinct) a b
+      (below-vector (fieldOf q .size) (q * length columns) a (ha .long) (ha .symbols))
+      (below-vector (fieldOf q .size) (q * length columns) b (hb .long) (hb .symbols))
+      (λ j t k l. same t l j k)
+    where
+      same : (t : ℕ) → t < length columns → (j : ℕ) → j < q → at-column (fieldOf q) q columns a t j ≡ at-column (fieldOf q) q columns b t j
+      same t l =
+          let x = getD columns t 0 in
+          let long = length-ys q (w .over .curve) x (w .over .small t l) in
+          value-unique (fieldOf q) (ysOf q x) q (at-column (fieldOf q) q columns a t) (at-column (fieldOf q) q columns b t)
+          (ys-below q (w .over .curve) x (w .over .small t l)) (nodup-ys q x)
+          (λ j k. value-lt (fieldOf q) (length columns) (strand q a j) x) (λ j k. value-lt (fieldOf q) (length columns) (strand q b j) x) (omega arith)
+          (each-mem (λ (y : ℕ). value (fieldOf q) q (at-column (fieldOf q) q columns a t) y ≡ value (fieldOf q) q (at-column (fieldOf q) q columns b t) y) 0 (ysOf q x)
+          (λ s k. ha .is t s l (omega arith) ∙ sym (hb .is t s l (omega arith))))
+
+  module _ (m : ℕ) (order : m < q * length columns) where
+    pos : 0 < q
+    pos = omega (arith, sizes q (w .over .curve) .low)
+
+    -- a message's value at a point is that of its grid
+    laid-out : (v : List ℕ) (t s : ℕ) → t < length columns → s < q
+        → getD (wordOf q columns m v) (q * t + s) 0 ≡ gridValue q columns (scatter q (q * length columns) m v) t s
+    laid-out v t s a b =
+        word-at q m (w .over .curve) v columns (w .over .small) t s a b
+        ∙ two-stages q pos (length columns) (q * length columns) m v (getD columns t 0) (getD (ysOf q (getD columns t 0)) s 0) order (omega arith)
+
+    -- the grid of a message that has the word
+    pub message-grid : (v : List ℕ) → Vector (q * q) (size q m) v → Fits (wordOf q columns m) word v → GridOf q columns word (scatter q (q * length columns) m v)
+    message-grid v hv h =
+        record {
+          long = length-scatter q (q * length columns) v (suc m);
+          symbols = symbols-scatter q (q * length columns) v below (suc m);
+          is = λ t s a b. sym (laid-out v t s a b) ∙ h .at (q * t + s) (omega (arith, w .long, place-lt q t s (length columns) b a)) (whole (q * t + s));
+        }
+      where
+        below : Below (fieldOf q .size) v
+        below = rw (sizes q (w .over .curve) .size) (vector-below (q * q) (size q m) v (omega (arith, sizes q (w .over .curve) .size, zero-lt (fieldOf q))) hv)
+
+        whole : (p : ℕ) → getD word p 0 ≡ 255 → ⊥
+        whole p e = omega (arith, w .symbols p, sizes q (w .over .curve) .size, sizes q (w .over .curve) .symbols)
+
+    -- two messages that have the word are the same
+    pub message-only : (u v : List ℕ) → Fitting (q * q) (size q m) (wordOf q columns m) word u → Fitting (q * q) (size q m) (wordOf q columns m) word v → u ≡ v
+    message-only u v hu hv =
+        sym (gather-scatter q pos (q * length columns) m u (hu .vector .len) order)
+        ∙ ap (gather q m)
+        (grid-only (scatter q (q * length columns) m u) (scatter q (q * length columns) m v) (message-grid u (hu .vector) (hu .fits)) (message-grid v (hv .vector) (hv .fits)))
+        ∙ gather-scatter q pos (q * length columns) m v (hv .vector .len) order
+
+    -- a grid without heavy terms is that of a message, which has the word
+    module _ (grid : List ℕ) (g : GridOf q columns word grid) where
+      pub grid-word : orderAtMost q m (length grid) grid ≡ true → wordOf q columns m (gather q m grid) ≡ word
+      grid-word e =
+          blocks-ext q pos (length columns) (gridValue q columns grid) (wordOf q columns m (gather q m grid)) word
+          (word-length q m (w .over .curve) (gather q m grid) columns (w .over .small)) (w .long)
+          (record { at = λ t s a b. laid-out (gather q m grid) t s a b ∙ ap (λ (l : List ℕ). gridValue q columns l t s) back })
+          (record { at = λ t s a b. sym (g .is t s a b) })
+        where
+          back : scatter q (q * length columns) m (gather q m grid) ≡ grid
+          back = within-message q pos (q * length columns) m grid (g .long) (ap (λ (n : ℕ). orderAtMost q m n grid) (sym (g .long)) ∙ e)
+
+      pub has-word : orderAtMost q m (length grid) grid ≡ true → Fitting (q * q) (size q m) (wordOf q columns m) word (gather q m grid)
+      has-word e =
+          record {
+            vector = rw (← sizes q (w .over .curve) .size) (vector-gather q m (fieldOf q .size) grid (g .symbols));
+            fits = record { at = λ p l n. ap (λ (x : List ℕ). getD x p 0) (grid-word e) };
+          }
+
+      -- a message that has the word is that of the grid
+      laid-same : (v : List ℕ) → Fitting (q * q) (size q m) (wordOf q columns m) word v → scatter q (q * length columns) m v ≡ grid
+      laid-same v h = grid-only (scatter q (q * length columns) m v) grid (message-grid v (h .vector) (h .fits)) g
+
+      pub only-gathered : (v : List ℕ) → Fitting (q * q) (size q m) (wordOf q columns m) word v → v ≡ gather q m grid
+      only-gathered v h = sym (gather-scatter q pos (q * length columns) m v (h .vector .len) order) ∙ ap (gather q m) (laid-same v h)
+
+      pub only-within : (v : List ℕ) → Fitting (q * q) (size q m) (wordOf q columns m) word v → orderAtMost q m (length grid) grid ≡ true
+      only-within v h =
+          ap (λ (n : ℕ). orderAtMost q m n grid) (g .long)
+          ∙ ap (orderAtMost q m (q * length columns)) (sym (laid-same v h)) ∙ within-scatter q pos (q * length columns) m v
+
+-- ---- what is read
+
+module _ (Fit : List ℕ → Type 0) (slice : List ℕ) where
+  pub the-one : (l : List (List ℕ)) → ListOf Fit l → (v : List ℕ) → Fit v → ((u : List ℕ) → Fit u → u ≡ v) → theMessage l slice ≡ answered Done v
+  the-one [] h v a only = absurd (not-nil (h .whole v a))
+  the-one (u ∷ rest) h v a only = ap (answered Done) (only u (h .sound u (head refl)))
+
+  pub the-none : (l : List (List ℕ)) → ListOf Fit l → ((u : List ℕ) → Fit u → ⊥) → theMessage l slice ≡ answered NoMessage slice
+  the-none [] h none = refl
+  the-none (u ∷ rest) h none = absurd (none u (h .sound u (head refl)))
+
+module _ (q : ℕ) (columns word : List ℕ) (w : WordOver q columns word) (m : ℕ) (order : m < q * length columns) (grid : List ℕ) (g : GridOf q columns word grid)
+    (slice : List ℕ) where
+  pub read-within : orderAtMost q m (length grid) grid ≡ true → readOver q columns m word slice ≡ answered Done (gather q m grid)
+  read-within e =
+      the-one (Fitting (q * q) (size q m) (wordOf q columns m) word) slice (fitting (q * q) (size q m) (wordOf q columns m) word)
+      (fitting-list (q * q) (size q m) (wordOf q columns m) word) (gather q m grid)
+      (has-word q columns word w m order grid g e) (only-gathered q columns word w m order grid g)
+
+  pub read-beyond : orderAtMost q m (length grid) grid ≡ false → readOver q columns m word slice ≡ answered NoMessage slice
+  read-beyond e =
+      the-none (Fitting (q * q) (size q m) (wordOf q columns m) word) slice (fitting (q * q) (size q m) (wordOf q columns m) word)
+      (fitting-list (q * q) (size q m) (wordOf q columns m) word)
+      (λ v h. let z : _≡_ {A = Bool} true false = sym (only-within q columns word w m order grid g v h) ∙ e in let o : _≡_ {A = ℕ} 0 1 = cc in omega arith)

@@ -27,3 +27,4 @@ pub mod ColumnInterpolation
 pub mod ColumnTurns
 pub mod WordGrids
 pub mod Inverse
+pub mod PaperValues

@@ -26,6 +26,10 @@ use Rattle.code.proofs.Exponents.{exponent-power, lt-pow}
 
 -- ---- what a list reads as: it has just the messages with the property Fit
 
+pub none-listed : (Fit : List ℕ → Type 0) (l : List (List ℕ)) → ListOf Fit l → ((v : List ℕ) → Fit v → ⊥) → l ≡ []
+none-listed Fit [] h none = refl
+none-listed Fit (u ∷ l) h none = absurd (none u (h .sound u (head refl)))
+
 module _ (Q : ℕ) (two-le : 1 < Q) (Fit : List ℕ → Type 0) where
   pub reads-nothing : (l : List (List ℕ)) → ListOf Fit l → (read Q l ≡ nothing) ↔ ((v : List ℕ) → Fit v → ⊥)
   unfolding read

@@ -9,8 +9,8 @@ use native.Mathlib.Nat.{div-add-mod, mod-lt, mul-sub, mul-add, suc-mul, mul-le-m
 use native.Mathlib.Omega.{arith}
 use borrow.Author.Tests.{le-leb, leb-true}
 use lib.ListN.{length, getD}
-use Rattle.field.specs.Curve.{IsCurve}
-use Rattle.field.proofs.Curves.{sizes}
+use Rattle.field.specs.Curve.{IsCurve, curveOf}
+use Rattle.field.proofs.Curves.{sizes, each-curve}
 use Rattle.code.specs.Passing.{passing}
 use Rattle.code.specs.Terms.{isTerm, xPower, yPower, weights, size}
 use Rattle.code.specs.Grid.{weightOf, entryOf, rank}
@@ -122,6 +122,12 @@ size-2 m l = le-ind (λ (k : ℕ). size 2 k ≡ k) base-2 (λ k a ih. size-suc 2
 
 pub size-4 : (m : ℕ) → 11 ≤ m → size 4 m ≡ m - 5
 size-4 m l = le-ind (λ (k : ℕ). size 4 k ≡ k - 5) base-4 (λ k a ih. size-suc 4 (omega arith) k (omega arith) ∙ ap suc ih ∙ omega arith) m l
+
+-- where g is q (q - 1) / 2
+pub size-from-genus : (q : ℕ) → IsCurve q → (m : ℕ) → q * (q - 1) ≤ m + 1 → size q m ≡ m + 1 - curveOf q .genus
+size-from-genus =
+    each-curve (λ q. (m : ℕ) → q * (q - 1) ≤ m + 1 → size q m ≡ m + 1 - curveOf q .genus)
+    (λ m l. size-2 m (omega arith) ∙ omega arith) (λ m l. size-4 m (omega arith) ∙ omega arith)
 
 pub size-le : (q m : ℕ) → size q m ≤ suc m
 size-le q m = place-bound (isTerm q) (suc m)

@@ -2,7 +2,7 @@
 -- where its coefficients, laid out, are that grid; so the test of the weights says whether a message has the word, and the grid which.
 -- Assumes nothing.
 use mathlib.Core.Bool.{Bool, true, false}
-use mathlib.Core.List.{List, [], _∷_, List·Memᴰ·head as head, List·Memᴰ·not-nil as not-nil}
+use mathlib.Core.List.{List, [], _∷_, List·Memᴰ·head as head, List·Memᴰ·tail as tail, List·Memᴰ·not-nil as not-nil}
 use mathlib.Core.Path.{_≡_, refl, sym, ap, _∙_}
 use Prim.Native.Nat.{ℕ, suc, _+_, _*_, _<_}
 use native.Mathlib.Omega.{arith}
@@ -30,6 +30,7 @@ use Rattle.code.specs.Grid.{entryOf, scatter, gather, orderAtMost}
 use Rattle.code.specs.Fitting.{fitting}
 use Rattle.code.specs.Answers.{answered}
 use Rattle.code.specs.Unencoded.{theMessage}
+use Rattle.code.specs.Recovered.{read, reading, told}
 use Rattle.code.specs.Readable.{WordOver, ColumnsInterpolated, readOver}
 use Rattle.code.proofs.GridEntries.{length-scatter, length-gather, gather-scatter}
 use Rattle.code.proofs.GridLaw.{two-stages}
@@ -38,7 +39,7 @@ use Rattle.code.proofs.Columns.{length-ys, word-at, word-length}
 use Rattle.code.proofs.Points.{nodup-ys}
 use Rattle.code.proofs.Stages.{columns-below, symbols-scatter, ys-below}
 use Rattle.code.proofs.Fitting.{Fits}
-use Rattle.code.proofs.Readings.{Fitting, fitting-list}
+use Rattle.code.proofs.Readings.{Fitting, fitting-list, none-listed}
 
 -- the polynomial of a grid at the y number s of column t
 abbrev pub gridValue : ℕ → List ℕ → List ℕ → ℕ → ℕ → ℕ
@@ -122,6 +123,18 @@ module _ (q : ℕ) (columns word : List ℕ) (w : WordOver q columns word) where
         (grid-only (scatter q (q * length columns) m u) (scatter q (q * length columns) m v) (message-grid u (hu .vector) (hu .fits)) (message-grid v (hv .vector) (hv .fits)))
         ∙ gather-scatter q pos (q * length columns) m v (hv .vector .len) order
 
+    -- so recovery says of a whole word what unencoding says
+    told-read : (slice : List ℕ) (l : List (List ℕ)) → ListOf (Fitting (q * q) (size q m) (wordOf q columns m) word) l → told (read (q * q) l) slice ≡ theMessage l slice
+    unfolding read told
+    told-read slice [] h = refl
+    told-read slice (u ∷ []) h = refl
+    told-read slice (u ∷ v ∷ l) h = absurd (h .distinct .0 (head (message-only u v (h .sound u (head refl)) (h .sound v (tail (head refl))))))
+
+    pub whole-told : (slice : List ℕ) → told (reading (q * q) (size q m) (wordOf q columns m) word) slice ≡ readOver q columns m word slice
+    unfolding reading
+    whole-told slice =
+        told-read slice (fitting (q * q) (size q m) (wordOf q columns m) word) (fitting-list (q * q) (size q m) (wordOf q columns m) word)
+
     -- a grid without heavy terms is that of a message, which has the word
     module _ (grid : List ℕ) (g : GridOf q columns word grid) where
       pub grid-word : orderAtMost q m (length grid) grid ≡ true → wordOf q columns m (gather q m grid) ≡ word
@@ -161,8 +174,7 @@ module _ (Fit : List ℕ → Type 0) (slice : List ℕ) where
   the-one (u ∷ rest) h v a only = ap (answered Done) (only u (h .sound u (head refl)))
 
   pub the-none : (l : List (List ℕ)) → ListOf Fit l → ((u : List ℕ) → Fit u → ⊥) → theMessage l slice ≡ answered NoMessage slice
-  the-none [] h none = refl
-  the-none (u ∷ rest) h none = absurd (none u (h .sound u (head refl)))
+  the-none l h none = ap (λ (l : List (List ℕ)). theMessage l slice) (none-listed Fit l h none)
 
 module _ (q : ℕ) (columns word : List ℕ) (w : WordOver q columns word) (m : ℕ) (order : m < q * length columns) (grid : List ℕ) (g : GridOf q columns word grid)
     (slice : List ℕ) where

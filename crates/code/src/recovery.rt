@@ -21,6 +21,7 @@ use crate::check;
 use crate::encoding;
 use crate::point;
 use crate::term;
+use crate::unencoding;
 use field::Outcome;
 use poly::rows;
 use poly::system;
@@ -221,8 +222,8 @@ fn finish(
     fits
 }
 
-// What the symbols of a broken word say: no message, this one, or several.
-fn recover_over(
+// What the symbols of a broken word say by their equations: no message, this one, or several.
+fn recover_by_equations(
     q: u8,
     columns: &[u8],
     m: usize,
@@ -246,6 +247,25 @@ fn recover_over(
     } else {
         Outcome::NoMessage
     }
+}
+
+// The same. A whole word is unencoded, which is faster.
+fn recover_over(
+    q: u8,
+    columns: &[u8],
+    m: usize,
+    k: usize,
+    word: &[u8],
+    message: &mut [u8],
+) -> Outcome
+    requires { ⌜ BrokenOver q (now columns) m (now word) × (k ≡ size q m) × (length (now message) ≡ size q m) × (size q m < 64) ⌝ }
+    ensures { λ r. ⌜ told (reading (fieldOf q .size) (size q m) (wordOf q (now (columns .entry)) m) (now (word .entry))) (now (message .entry)) ≡ answered r (now (message .exit)) ⌝ }
+{
+    let symbols = q * q;
+    if check::first_bad(false, symbols, word) == word.len() {
+        return unencoding::read_word(q, columns, m, word, message);
+    }
+    recover_by_equations(q, columns, m, k, word, message)
 }
 
 // The message that alone fits a broken word, 255 standing for each missing symbol.

@@ -9,4 +9,3 @@ pub mod Powers
 pub mod Outcomes
 pub mod Curves
 pub mod Entries
-pub mod Values

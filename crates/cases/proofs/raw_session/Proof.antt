@@ -1,0 +1,60 @@
+-- `raw_session` is safe and ends.
+-- Assumes nothing.
+use Prim.Native.Nat.{_-_}
+use native.Mathlib.Omega.{arith}
+use borrow.Author.Needs.{needs}
+use Rattle.cases.proofs.raw_session.Statement.{statement}
+use Rattle.cases.proofs.raw_session.Tie as tie
+
+abbrev Inv-loop : tie.InvT-loop
+Inv-loop «record» places₀ j₀ places j = Unit {0}
+
+abbrev μ-loop : tie.MeasureT-loop
+μ-loop «record» places₀ j₀ places j = 64 - j
+
+loop-holds : tie.Need-loop-holds Inv-loop μ-loop
+loop-holds c = tt
+
+add-places : tie.Need-add-places Inv-loop μ-loop
+add-places c = omega arith
+
+array-read-places : tie.Need-array-read-places Inv-loop μ-loop
+array-read-places c = omega arith
+
+array-write-places : tie.Need-array-write-places Inv-loop μ-loop
+array-write-places c = search needs
+
+add-j : tie.Need-add-j Inv-loop μ-loop
+add-j c = omega arith
+
+loop-less : tie.Need-loop-less Inv-loop μ-loop
+loop-less c = omega arith
+
+loop-again : tie.Need-loop-again Inv-loop μ-loop
+loop-again c = tt
+
+array-read-t14 : tie.Need-array-read-t14 Inv-loop μ-loop
+array-read-t14 c = search needs
+
+array-read-t17 : tie.Need-array-read-t17 Inv-loop μ-loop
+array-read-t17 c = search needs
+
+returns : tie.Need-returns Inv-loop μ-loop
+returns c = tt
+
+pub raw-session-spec : {M : Type 1} → statement M
+raw-session-spec =
+    tie.close
+    (tie.spec
+    Inv-loop
+    μ-loop
+    loop-holds
+    add-places
+    array-read-places
+    array-write-places
+    add-j
+    loop-less
+    loop-again
+    array-read-t14
+    array-read-t17
+    returns)

@@ -1,0 +1,57 @@
+// Text in ASCII, written into a slice from a place on. Each function answers the place after its text.
+ghost use mathlib.Core.Path.{_≡_};
+ghost use mathlib.Core.List.{map};
+ghost use Prim.Native.Nat.{_+_, _≤_};
+ghost use lib.ListN.{length};
+ghost use Rattle.lines.specs.Text.{Typed};
+ghost use Rattle.lines.specs.Text.{glyph as Text·glyph, decimal as Text·decimal};
+
+pub fn bytes(text: &[u8], at: usize, out: &mut [u8]) -> usize
+    requires { ⌜ at + length (now text) ≤ length (now out) ⌝ }
+    ensures { λ r. ⌜ Typed (now (out .entry)) at (now (text .entry)) r (now (out .exit)) ⌝ }
+{
+    let mut j = 0;
+    let mut end = at;
+    while j < text.len() {
+        out[end] = text[j];
+        end += 1;
+        j += 1;
+    }
+    end
+}
+
+// The last hexadecimal digit of a byte, in lower case.
+pub fn glyph(value: u8) -> u8
+    ensures { λ r. ⌜ r ≡ Text·glyph value ⌝ }
+{
+    let d = value % 16;
+    if d < 10 { 48 + d } else { 87 + d }
+}
+
+// One hexadecimal digit for each value.
+pub fn digits(values: &[u8], at: usize, out: &mut [u8]) -> usize
+    requires { ⌜ at + length (now values) ≤ length (now out) ⌝ }
+    ensures { λ r. ⌜ Typed (now (out .entry)) at (map Text·glyph (now (values .entry))) r (now (out .exit)) ⌝ }
+{
+    let mut j = 0;
+    let mut end = at;
+    while j < values.len() {
+        out[end] = glyph(values[j]);
+        end += 1;
+        j += 1;
+    }
+    end
+}
+
+pub fn decimal(n: usize, at: usize, out: &mut [u8]) -> usize
+    requires { ⌜ at + length (Text·decimal n) ≤ length (now out) ⌝ }
+    ensures { λ r. ⌜ Typed (now (out .entry)) at (Text·decimal n) r (now (out .exit)) ⌝ }
+{
+    if n < 10 {
+        out[at] = 48 + n as u8;
+        return at + 1;
+    }
+    let end = decimal(n / 10, at, out);
+    out[end] = 48 + (n % 10) as u8;
+    end + 1
+}

@@ -1,0 +1,172 @@
+//! Times of the proved library, through C, beside a plain Rust baseline, in
+//! one run on the same inputs at q = 4, m = 37. Checks first that both give
+//! the same answers.
+//!
+//! With an operation's name and a number of calls as arguments it runs the
+//! library alone, for a profiler.
+
+mod baseline;
+mod profile;
+mod timing;
+
+use std::hint::black_box;
+use std::process::ExitCode;
+
+use baseline::Baseline;
+use hermitian::Refusal;
+use reference::curve::Curve;
+use reference::generator::Generator;
+use reference::sample::{self, Shape};
+use timing::Times;
+
+const Q: u8 = 4;
+const M: u8 = 37;
+const K: usize = 32;
+const N: usize = 64;
+const MISSING: u8 = 255;
+
+const INPUTS: usize = 64;
+const MISSING_COUNTS: [usize; 6] = [0, 4, 10, 20, 26, 32];
+const SEED: u64 = 37;
+
+type Message = [u8; K];
+type Word = [u8; N];
+type LibraryCall = fn(u8, u8, &[u8], &mut [u8]) -> Result<(), Refusal>;
+
+fn main() -> ExitCode {
+    let arguments: Vec<String> = std::env::args().skip(1).collect();
+    match arguments.as_slice() {
+        [] => print_table(),
+        [operation, calls] => return profile::run(operation, calls),
+        _ => {
+            eprintln!("{}", profile::USAGE);
+            return ExitCode::FAILURE;
+        }
+    }
+    ExitCode::SUCCESS
+}
+
+fn print_table() {
+    let baseline = Baseline::new();
+    let messages = messages();
+    let words: Vec<Word> = messages.iter().map(word_of).collect();
+    println!("| operation | library, ns | baseline, ns | baseline / library |");
+    println!("|---|---|---|---|");
+    print_row("encode", &encoding_times(&baseline, &messages));
+    print_row("unencode", &unencoding_times(&baseline, &words));
+    for missing in MISSING_COUNTS {
+        let broken = broken_words(&words, missing);
+        let name = format!("recover, {missing} missing");
+        print_row(&name, &recovery_times(&baseline, &broken));
+    }
+}
+
+fn print_row(name: &str, times: &Times) {
+    let ratio = times.baseline / times.library;
+    println!(
+        "| {name} | {:.0} | {:.0} | {ratio:.2} |",
+        times.library, times.baseline
+    );
+}
+
+fn encoding_times(baseline: &Baseline, messages: &[Message]) -> Times {
+    for message in messages {
+        let (mut ours, mut theirs) = ([0; N], [0; N]);
+        let answer = packed(hermitian::encode(Q, M, message, &mut ours));
+        assert_eq!(baseline.encode(message, &mut theirs), answer);
+        assert_eq!(ours, theirs);
+    }
+    let (mut ours, mut theirs) = ([0; N], [0; N]);
+    timing::compare(
+        messages.len(),
+        || {
+            for message in messages {
+                let _ = black_box(hermitian::encode(Q, M, black_box(message), &mut ours));
+                black_box(&ours);
+            }
+        },
+        || {
+            for message in messages {
+                black_box(baseline.encode(black_box(message), &mut theirs));
+                black_box(&theirs);
+            }
+        },
+    )
+}
+
+fn unencoding_times(baseline: &Baseline, words: &[Word]) -> Times {
+    decoding_times(words, hermitian::unencode, |word, message| {
+        baseline.unencode(word, message)
+    })
+}
+
+fn recovery_times(baseline: &Baseline, words: &[Word]) -> Times {
+    decoding_times(words, hermitian::recover, |word, message| {
+        baseline.recover(word, message)
+    })
+}
+
+/// The two ways must agree on whole and on damaged words before they are
+/// timed on the former.
+fn decoding_times(
+    words: &[Word],
+    library: LibraryCall,
+    baseline: impl Fn(&Word, &mut Message) -> u32,
+) -> Times {
+    for word in words.iter().chain(&damaged(words)) {
+        let (mut ours, mut theirs) = ([99; K], [99; K]);
+        let answer = packed(library(Q, M, word, &mut ours));
+        assert_eq!(baseline(word, &mut theirs), answer);
+        assert!(answer != baseline::DONE || ours == theirs);
+    }
+    let (mut ours, mut theirs) = ([0; K], [0; K]);
+    timing::compare(
+        words.len(),
+        || {
+            for word in words {
+                let _ = black_box(library(Q, M, black_box(word), &mut ours));
+                black_box(&ours);
+            }
+        },
+        || {
+            for word in words {
+                black_box(baseline(black_box(word), &mut theirs));
+                black_box(&theirs);
+            }
+        },
+    )
+}
+
+fn packed(result: Result<(), Refusal>) -> u32 {
+    result.map_or_else(Refusal::answer, |()| 0)
+}
+
+fn shape() -> Shape {
+    Shape::of(Curve::Q_IS_4, M)
+}
+
+fn messages() -> Vec<Message> {
+    let mut generator = Generator::with_seed(SEED);
+    let message = |_| fixed(sample::message(&mut generator, shape()));
+    (0..INPUTS).map(message).collect()
+}
+
+fn word_of(message: &Message) -> Word {
+    fixed(shape().word_of(message))
+}
+
+fn broken_words(words: &[Word], missing: usize) -> Vec<Word> {
+    let mut generator = Generator::with_seed(SEED + missing as u64);
+    let broken = |word: &Word| fixed(sample::with_known(&mut generator, word, N - missing));
+    words.iter().map(broken).collect()
+}
+
+fn damaged(words: &[Word]) -> Vec<Word> {
+    let mut generator = Generator::with_seed(SEED);
+    let damaged = |word: &Word| fixed(sample::damaged(&mut generator, shape(), word));
+    words.iter().map(damaged).collect()
+}
+
+fn fixed<const LENGTH: usize>(symbols: Vec<u8>) -> [u8; LENGTH] {
+    symbols.try_into().expect("the lengths of this order")
+}

@@ -1,0 +1,139 @@
+/* One message on its way: encoded, partly lost, recovered; then what a refusal
+ * looks like. Returns 1 if anything isn't as it should be. */
+#include <stdio.h>
+#include <string.h>
+
+#include "hermitian.h"
+
+enum { Q = 4, M = 37, K = 32, N = 64 };
+
+static int failures = 0;
+
+static void expect(int holds, const char *what) {
+    printf("  %s: %s\n", holds ? "ok" : "FAILED", what);
+    if (!holds) {
+        failures++;
+    }
+}
+
+static void show(const char *title, const uint8_t *symbols, size_t length) {
+    printf("%s", title);
+    for (size_t i = 0; i < length; i++) {
+        if (symbols[i] == HERMITIAN_MISSING) {
+            putchar('.');
+        } else {
+            printf("%x", (unsigned)symbols[i]);
+        }
+    }
+    putchar('\n');
+}
+
+/* What a person should read when a call was refused. */
+static void explain(uint32_t answer) {
+    unsigned second = hermitian_second(answer);
+    switch (hermitian_number(answer)) {
+    case HERMITIAN_DONE:
+        puts("  done");
+        break;
+    case HERMITIAN_UNKNOWN_CURVE:
+        puts("  refused: the curve number must be 2 or 4");
+        break;
+    case HERMITIAN_ORDER_TOO_HIGH:
+        puts("  refused: the order is too high for this curve");
+        break;
+    case HERMITIAN_WRONG_INPUT_LENGTH:
+        puts("  refused: the input has the wrong length");
+        break;
+    case HERMITIAN_NOT_A_SYMBOL:
+        printf("  refused: the input's byte %u is no symbol\n", second);
+        break;
+    case HERMITIAN_WRONG_OUTPUT_LENGTH:
+        puts("  refused: the output buffer has the wrong length");
+        break;
+    case HERMITIAN_NO_MESSAGE_FITS:
+        puts("  refused: no message fits; at least one symbol is wrong");
+        break;
+    case HERMITIAN_SEVERAL_MESSAGES_FIT:
+        printf("  refused: too many symbols are missing; 16^%u messages fit\n", second);
+        break;
+    default:
+        printf("  refused: number %u, which this program doesn't know\n",
+               hermitian_number(answer));
+    }
+}
+
+static void make_message(uint8_t message[K]) {
+    for (size_t i = 0; i < K; i++) {
+        message[i] = (uint8_t)((7 * i + 3) % 16);
+    }
+}
+
+/* Loses the first `count` of the places 0, 5, 10, ..., which come to every
+ * place once, since 5 and 64 share no factor. */
+static void lose(uint8_t word[N], size_t count) {
+    for (size_t i = 0; i < count; i++) {
+        word[5 * i % N] = HERMITIAN_MISSING;
+    }
+}
+
+static void encode_and_unencode(const uint8_t message[K], uint8_t word[N]) {
+    uint8_t read[K] = {0};
+    expect(hermitian_encode(Q, M, message, K, word, N) == HERMITIAN_DONE, "the message is encoded");
+    show("word:     ", word, N);
+    expect(hermitian_unencode(Q, M, word, N, read, K) == HERMITIAN_DONE, "the word is unencoded");
+    expect(memcmp(read, message, K) == 0, "the message came back");
+}
+
+static void lose_and_recover(const uint8_t message[K], const uint8_t word[N]) {
+    uint8_t broken[N];
+    uint8_t read[K] = {0};
+    memcpy(broken, word, N);
+    lose(broken, 26);
+    show("arrived:  ", broken, N);
+    expect(hermitian_recover(Q, M, broken, N, read, K) == HERMITIAN_DONE,
+           "the message is recovered with 26 symbols missing");
+    expect(memcmp(read, message, K) == 0, "it is the message that was sent");
+}
+
+static void refuse(const uint8_t word[N]) {
+    uint8_t broken[N];
+    uint8_t read[K];
+    uint8_t untouched[K];
+    memcpy(broken, word, N);
+    memset(read, 0xAA, K);
+    memset(untouched, 0xAA, K);
+    lose(broken, 40);
+    show("arrived:  ", broken, N);
+    uint32_t answer = hermitian_recover(Q, M, broken, N, read, K);
+    explain(answer);
+    expect(hermitian_number(answer) == HERMITIAN_SEVERAL_MESSAGES_FIT &&
+               hermitian_second(answer) == 8,
+           "24 symbols leave 8 of 32 open");
+
+    memcpy(broken, word, N);
+    broken[9] ^= 1;
+    answer = hermitian_recover(Q, M, broken, N, read, K);
+    explain(answer);
+    expect(hermitian_number(answer) == HERMITIAN_NO_MESSAGE_FITS, "a wrong symbol is noticed");
+
+    broken[9] = 16;
+    answer = hermitian_unencode(Q, M, broken, N, read, K);
+    explain(answer);
+    expect(hermitian_number(answer) == HERMITIAN_NOT_A_SYMBOL && hermitian_second(answer) == 9,
+           "the bad byte is named");
+    expect(memcmp(read, untouched, K) == 0, "the refusals wrote nothing");
+}
+
+int main(void) {
+    uint8_t message[K];
+    uint8_t word[N] = {0};
+    expect(hermitian_message_length(Q, M) == K && hermitian_word_length(Q) == N,
+           "the strap's lengths are 32 and 64");
+    make_message(message);
+    show("message:  ", message, K);
+    encode_and_unencode(message, word);
+    lose_and_recover(message, word);
+    refuse(word);
+    puts(failures == 0 ? "all as expected" : "SOMETHING FAILED");
+    return failures == 0 ? 0 : 1;
+}

@@ -1,0 +1,145 @@
+//! The proved Hermitian block code, safe to call from Rust.
+//!
+//! A message of k symbols becomes a word of n symbols; the word gives the
+//! message back, whole or with symbols missing. Wrong symbols aren't
+//! corrected: the library says when no message fits.
+//!
+//! | q | n, length of a word | symbols | order m |
+//! |---|---|---|---|
+//! | 2 | 8 | 0 to 3 | 0 to 7 |
+//! | 4 | 64 | 0 to 15 | 0 to 63 |
+//!
+//! [`message_length`] gives k. The strap uses q = 4, m = 37, k = 32. Any m + 1
+//! symbols of a word are enough to recover its message; fewer may be.
+//!
+//! ```
+//! use hermitian::{encode, recover, unencode, Refusal, MISSING};
+//!
+//! let message = [1, 2, 3];
+//! let mut word = [0; 8];
+//! encode(2, 3, &message, &mut word)?;
+//! assert_eq!(word, [1, 2, 2, 1, 3, 0, 1, 2]);
+//!
+//! let mut read = [0; 3];
+//! unencode(2, 3, &word, &mut read)?;
+//! assert_eq!(read, message);
+//!
+//! word[2..6].fill(MISSING);
+//! read = [0; 3];
+//! recover(2, 3, &word, &mut read)?;
+//! assert_eq!(read, message);
+//!
+//! word[6] = MISSING;
+//! word[7] = MISSING;
+//! let refusal = recover(2, 3, &word, &mut read).unwrap_err();
+//! assert_eq!(refusal, Refusal::SeveralMessagesFit { power: 1 });
+//! # Ok::<(), Refusal>(())
+//! ```
+//!
+//! The library trusts its caller in what C can't say: valid pointers that
+//! aren't null, and buffers that don't overlap. Slices and borrows give all of
+//! that, so the functions here are safe for every argument. That the
+//! declarations in [`entries`] are those of the library isn't proved; the
+//! differential tests hold them together.
+
+pub mod entries;
+mod refusal;
+
+pub use refusal::Refusal;
+
+/// Stands for a missing symbol in the word given to [`recover`].
+pub const MISSING: u8 = 255;
+
+/// Writes the word of a message: k symbols in, n symbols out.
+///
+/// # Errors
+///
+/// Refusals 1 to 5. A refused call leaves `word` unchanged.
+pub fn encode(q: u8, m: u8, message: &[u8], word: &mut [u8]) -> Result<(), Refusal> {
+    refusal::of_answer(call(entries::hermitian_encode, q, m, message, word))
+}
+
+/// Writes the message of a whole word: n symbols in, k symbols out.
+///
+/// # Errors
+///
+/// Refusals 1 to 5 and 9. A refused call leaves `message` unchanged.
+pub fn unencode(q: u8, m: u8, word: &[u8], message: &mut [u8]) -> Result<(), Refusal> {
+    refusal::of_answer(call(entries::hermitian_unencode, q, m, word, message))
+}
+
+/// Writes the only message that fits a word in which [`MISSING`] stands at
+/// each missing place: n bytes in, k symbols out.
+///
+/// # Errors
+///
+/// Refusals 1 to 5, 9 and 10. A refused call leaves `message` unchanged.
+pub fn recover(q: u8, m: u8, word: &[u8], message: &mut [u8]) -> Result<(), Refusal> {
+    refusal::of_answer(call(entries::hermitian_recover, q, m, word, message))
+}
+
+/// n, the length of a word; `None` if q names no curve.
+pub fn word_length(q: u8) -> Option<usize> {
+    match q {
+        2 => Some(8),
+        4 => Some(64),
+        _ => None,
+    }
+}
+
+/// k, the length of a message: the number of terms x^i·y^j with j below q and
+/// weight q·i + (q + 1)·j up to m. `None` if q or m would be refused.
+pub fn message_length(q: u8, m: u8) -> Option<usize> {
+    let order = usize::from(m);
+    if order >= word_length(q)? {
+        return None;
+    }
+    let width = usize::from(q);
+    let weights_of_y_parts = (0..width).map(|j| (width + 1) * j);
+    let counts = weights_of_y_parts
+        .filter(|&weight| weight <= order)
+        .map(|weight| (order - weight) / width + 1);
+    Some(counts.sum())
+}
+
+/// Lends both slices to an entry for the time of the call.
+fn call(entry: entries::Entry, q: u8, m: u8, input: &[u8], output: &mut [u8]) -> u32 {
+    // Safety: a slice's pointer is never null and is good for its length, and
+    // a borrowed slice doesn't overlap with a mutably borrowed one.
+    unsafe {
+        entry(
+            q,
+            m,
+            input.as_ptr(),
+            input.len(),
+            output.as_mut_ptr(),
+            output.len(),
+        )
+    }
+}
+
+#[cfg(test)]
+mod tests {
+    use super::*;
+
+    #[test]
+    fn the_lengths_of_the_paper() {
+        let rows = [(3, 1), (4, 2), (11, 6), (37, 32), (63, 58)];
+        for (m, k) in rows {
+            assert_eq!(message_length(4, m), Some(k));
+        }
+        assert_eq!(message_length(2, 7), Some(7));
+        assert_eq!(message_length(2, 8), None);
+        assert_eq!(message_length(4, 64), None);
+        assert_eq!(message_length(3, 0), None);
+    }
+
+    #[test]
+    fn empty_slices_are_refused() {
+        assert_eq!(encode(4, 37, &[], &mut []), Err(Refusal::WrongInputLength));
+        assert_eq!(
+            recover(4, 37, &[0; 64], &mut []),
+            Err(Refusal::WrongOutputLength)
+        );
+    }
+}

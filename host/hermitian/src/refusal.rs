@@ -1,0 +1,131 @@
+//! Why a call was turned down.
+
+use std::error::Error;
+use std::fmt;
+
+/// The refusals that the three entries can give. The library checks in the
+/// order of the numbers, and the first that applies decides. Numbers 6 to 8
+/// belong to receiving sessions, which have no C entry.
+#[derive(Clone, Copy, Debug, PartialEq, Eq, Hash)]
+pub enum Refusal {
+    /// 1: q is neither 2 nor 4.
+    UnknownCurve,
+    /// 2: m is n or more.
+    OrderTooHigh,
+    /// 3: the message isn't k long, or the word isn't n long.
+    WrongInputLength,
+    /// 4: an input byte is no symbol; `index` is the lowest such index.
+    NotASymbol { index: u8 },
+    /// 5: the slice to be written hasn't exactly the length of the result.
+    WrongOutputLength,
+    /// 9: no message has these symbols in its word.
+    NoMessageFits,
+    /// 10: exactly Q to the power `power` messages fit, where Q = q·q.
+    SeveralMessagesFit { power: u8 },
+    /// No answer of the rules: what is linked isn't the library that this
+    /// wrapper was written for.
+    NotInTheRules { answer: u32 },
+}
+
+impl fmt::Display for Refusal {
+    fn fmt(&self, f: &mut fmt::Formatter<'_>) -> fmt::Result {
+        match self {
+            Refusal::UnknownCurve => write!(f, "the curve number q must be 2 or 4"),
+            Refusal::OrderTooHigh => write!(
+                f,
+                "the order m is too high: at most 7 for q = 2, at most 63 for q = 4"
+            ),
+            Refusal::WrongInputLength => {
+                write!(f, "the input is longer or shorter than this order asks for")
+            }
+            Refusal::NotASymbol { index } => {
+                write!(f, "the input's byte at index {index} is no symbol")
+            }
+            Refusal::WrongOutputLength => {
+                write!(f, "the output is longer or shorter than the result")
+            }
+            Refusal::NoMessageFits => {
+                write!(f, "no message fits: at least one symbol is wrong")
+            }
+            Refusal::SeveralMessagesFit { power } => write!(
+                f,
+                "too many symbols are missing: (q * q)^{power} messages fit"
+            ),
+            Refusal::NotInTheRules { answer } => write!(
+                f,
+                "the linked library gave an answer outside the rules: {answer}"
+            ),
+        }
+    }
+}
+
+impl Error for Refusal {}
+
+/// Reads the one number that a call returns from C.
+pub(crate) fn of_answer(answer: u32) -> Result<(), Refusal> {
+    let second = (answer & 0xFFFF) as u8;
+    let refusal = match answer >> 16 {
+        0 if answer == 0 => return Ok(()),
+        1 => Refusal::UnknownCurve,
+        2 => Refusal::OrderTooHigh,
+        3 => Refusal::WrongInputLength,
+        4 => Refusal::NotASymbol { index: second },
+        5 => Refusal::WrongOutputLength,
+        9 => Refusal::NoMessageFits,
+        10 => Refusal::SeveralMessagesFit { power: second },
+        _ => Refusal::NotInTheRules { answer },
+    };
+    if refusal.answer() == answer {
+        Err(refusal)
+    } else {
+        Err(Refusal::NotInTheRules { answer })
+    }
+}
+
+impl Refusal {
+    /// The number that the C entry returned.
+    pub fn answer(self) -> u32 {
+        let (number, second) = match self {
+            Refusal::UnknownCurve => (1, 0),
+            Refusal::OrderTooHigh => (2, 0),
+            Refusal::WrongInputLength => (3, 0),
+            Refusal::NotASymbol { index } => (4, index),
+            Refusal::WrongOutputLength => (5, 0),
+            Refusal::NoMessageFits => (9, 0),
+            Refusal::SeveralMessagesFit { power } => (10, power),
+            Refusal::NotInTheRules { answer } => return answer,
+        };
+        number * 65536 + u32::from(second)
+    }
+}
+
+#[cfg(test)]
+mod tests {
+    use super::*;
+
+    #[test]
+    fn answers_are_read_and_given_back() {
+        assert_eq!(of_answer(0), Ok(()));
+        let rows = [
+            (65_536, Refusal::UnknownCurve),
+            (131_072, Refusal::OrderTooHigh),
+            (196_608, Refusal::WrongInputLength),
+            (262_207, Refusal::NotASymbol { index: 63 }),
+            (327_680, Refusal::WrongOutputLength),
+            (589_824, Refusal::NoMessageFits),
+            (655_392, Refusal::SeveralMessagesFit { power: 32 }),
+        ];
+        for (answer, refusal) in rows {
+            assert_eq!(of_answer(answer), Err(refusal));
+            assert_eq!(refusal.answer(), answer);
+        }
+    }
+
+    #[test]
+    fn answers_outside_the_rules_are_not_taken_for_others() {
+        for answer in [1, 65_537, 6 << 16, 11 << 16, (4 << 16) + 256, u32::MAX] {
+            let refusal = Refusal::NotInTheRules { answer };
+            assert_eq!(of_answer(answer), Err(refusal));
+        }
+    }
+}

@@ -1,0 +1,220 @@
+//! The groups of calls. Each gives what its calls answered.
+
+use reference::code::MISSING;
+use reference::curve::Curve;
+use reference::generator::Generator;
+use reference::sample::{self, Shape};
+
+use crate::comparison::{compare, Call, Entry};
+use crate::tally::Tally;
+
+fn every_shape() -> impl Iterator<Item = Shape> {
+    Curve::BOTH.into_iter().flat_map(Shape::every_order)
+}
+
+/// Whole, damaged and arbitrary words, and words with any number missing, at
+/// every order of both curves.
+pub fn at_every_order(generator: &mut Generator, rounds: usize) -> Tally {
+    let mut tally = Tally::new();
+    for shape in every_shape() {
+        for _ in 0..rounds {
+            well_formed_calls(shape, generator, &mut tally);
+        }
+    }
+    tally
+}
+
+fn well_formed_calls(shape: Shape, generator: &mut Generator, tally: &mut Tally) {
+    let message = sample::message(generator, shape);
+    let word = shape.word_of(&message);
+    let damaged = sample::damaged(generator, shape, &word);
+    let arbitrary = sample::symbols(generator, shape, shape.n);
+    let mut calls = vec![Call::fitting(Entry::Encode, shape, message)];
+    for whole in [&word, &damaged, &arbitrary] {
+        calls.push(Call::fitting(Entry::Unencode, shape, whole.clone()));
+    }
+    for broken in broken_words(shape, generator, &word) {
+        calls.push(Call::fitting(Entry::Recover, shape, broken));
+    }
+    for call in calls {
+        compare(&call, generator, tally);
+    }
+}
+
+/// A whole word, one with any number of symbols, two near the number where
+/// the answer turns, a damaged one, and one of whole columns.
+fn broken_words(shape: Shape, generator: &mut Generator, word: &[u8]) -> Vec<Vec<u8>> {
+    let any = generator.below(shape.n + 1);
+    let sure = usize::from(shape.m) + 1;
+    let near = shape.k + generator.below(sure + 1 - shape.k.min(sure));
+    let columns = generator.below(usize::from(shape.field_size) + 1);
+    let sparse = sample::with_known(generator, word, any);
+    vec![
+        word.to_vec(),
+        sample::with_known(generator, word, sure),
+        sample::with_known(generator, word, near),
+        sample::damaged(generator, shape, &sparse),
+        sparse,
+        sample::with_known_columns(generator, shape, word, columns),
+    ]
+}
+
+/// Every word of the small curve, each place a symbol or missing, at every
+/// order.
+pub fn every_small_broken_word(generator: &mut Generator, step: u32) -> Tally {
+    let mut tally = Tally::new();
+    for shape in Shape::every_order(Curve::Q_IS_2) {
+        // A start that differs from order to order, so that with a step above
+        // 1 the runs don't all see the same words.
+        let start = generator.below(step as usize) as u32;
+        for number in (start..5u32.pow(8)).step_by(step as usize) {
+            let call = Call::fitting(Entry::Recover, shape, digits(number, 5));
+            compare(&call, generator, &mut tally);
+        }
+    }
+    tally
+}
+
+/// Every whole word of the small curve at every order.
+pub fn every_small_word(generator: &mut Generator, step: u32) -> Tally {
+    let mut tally = Tally::new();
+    for shape in Shape::every_order(Curve::Q_IS_2) {
+        let start = generator.below(step as usize) as u32;
+        for number in (start..4u32.pow(8)).step_by(step as usize) {
+            let call = Call::fitting(Entry::Unencode, shape, digits(number, 4));
+            compare(&call, generator, &mut tally);
+        }
+    }
+    tally
+}
+
+/// Eight digits of the number; 4 stands for a missing symbol.
+fn digits(number: u32, base: u32) -> Vec<u8> {
+    let digit = |place: u32| match number / base.pow(place) % base {
+        4 => MISSING,
+        symbol => symbol as u8,
+    };
+    (0..8).map(digit).collect()
+}
+
+/// Every curve number with every order, with lengths that fit some curve.
+pub fn every_curve_number_and_order(generator: &mut Generator) -> Tally {
+    let mut tally = Tally::new();
+    for q in 0..=255 {
+        for m in 0..=255 {
+            let entry = Entry::ALL[generator.below(3)];
+            let call = Call {
+                entry,
+                q,
+                m,
+                input: vec![0; [8, 32, 64][generator.below(3)]],
+                output_length: [8, 32, 64][generator.below(3)],
+            };
+            compare(&call, generator, &mut tally);
+        }
+    }
+    tally
+}
+
+/// Every byte at an arbitrary index, at every order, by every entry.
+pub fn every_byte(generator: &mut Generator) -> Tally {
+    let mut tally = Tally::new();
+    for shape in every_shape() {
+        for entry in Entry::ALL {
+            for value in shape.field_size..=255 {
+                let length = entry.lengths(shape).0;
+                let mut input = sample::symbols(generator, shape, length);
+                input[generator.below(length)] = value;
+                compare(&Call::fitting(entry, shape, input), generator, &mut tally);
+            }
+        }
+    }
+    tally
+}
+
+/// One fault or several at once: the first check that applies must decide.
+pub fn faulty(generator: &mut Generator, rounds: usize) -> Tally {
+    let mut tally = Tally::new();
+    let shapes: Vec<Shape> = every_shape().collect();
+    for round in 0..rounds {
+        let shape = shapes[generator.below(shapes.len())];
+        let call = faulty_call(Entry::ALL[round % 3], shape, generator);
+        compare(&call, generator, &mut tally);
+    }
+    tally
+}
+
+fn faulty_call(entry: Entry, shape: Shape, generator: &mut Generator) -> Call {
+    let (input_length, output_length) = entry.lengths(shape);
+    let input = sample::symbols(generator, shape, input_length);
+    let mut call = Call::fitting(entry, shape, input);
+    // The rarest fault first in the order of the checks, so that each number
+    // comes up often.
+    if generator.below(12) == 0 {
+        call.q = generator.byte();
+    }
+    if generator.below(8) == 0 {
+        call.m = generator.byte();
+    }
+    if generator.below(5) == 0 {
+        let length = wrong_length(input_length, generator);
+        call.input.resize(length, 0);
+    }
+    for _ in 0..generator.below(4) {
+        spoil(&mut call.input, shape, generator);
+    }
+    if generator.below(2) == 0 {
+        call.output_length = wrong_length(output_length, generator);
+    }
+    call
+}
+
+/// Mostly near the right length or near a limit of a byte.
+fn wrong_length(right: usize, generator: &mut Generator) -> usize {
+    let choices = [
+        0,
+        1,
+        right - 1,
+        right + 1,
+        right + 256,
+        63,
+        64,
+        65,
+        255,
+        256,
+        257,
+        generator.below(1024),
+        65536 + right,
+    ];
+    // The largest is rare: it is slow to make and no more telling.
+    let count = if generator.below(50) == 0 { 13 } else { 12 };
+    choices[generator.below(count)]
+}
+
+fn spoil(input: &mut [u8], shape: Shape, generator: &mut Generator) {
+    let size = shape.field_size;
+    let value = [size, size + 1, 127, 128, 254, MISSING, generator.byte()][generator.below(7)];
+    let index = generator.below(input.len());
+    if let Some(symbol) = input.get_mut(index) {
+        *symbol = value;
+    }
+}
+
+/// The strap's own order, words with 0 to 64 missing, sometimes damaged.
+pub fn strap_blocks(generator: &mut Generator, rounds: usize) -> Tally {
+    let mut tally = Tally::new();
+    let shape = Shape::of(Curve::Q_IS_4, 37);
+    for round in 0..rounds {
+        let word = sample::codeword(generator, shape);
+        let mut broken = sample::with_known(generator, &word, round % 65);
+        if generator.below(4) == 0 {
+            broken = sample::damaged(generator, shape, &broken);
+        }
+        compare(
+            &Call::fitting(Entry::Recover, shape, broken),
+            generator,
+            &mut tally,
+        );
+    }
+    tally
+}

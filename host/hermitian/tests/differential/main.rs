@@ -1,0 +1,111 @@
+//! The library through its C entries beside the reference, on every kind of
+//! call. Set HERMITIAN_SEED to repeat a run.
+
+mod comparison;
+mod guarded;
+mod inputs;
+mod tally;
+
+use std::io::Write;
+use std::time::{Instant, SystemTime, UNIX_EPOCH};
+
+use comparison::Entry;
+use reference::generator::Generator;
+use tally::Tally;
+
+const LEAST_CALLS: u64 = 200_000;
+
+type Group = (&'static str, fn(&mut Generator) -> Tally);
+
+/// The mix follows what the reference costs: some microseconds at q = 2, up
+/// to some milliseconds at the high orders of q = 4.
+const GROUPS: [Group; 7] = [
+    ("every order", |g| inputs::at_every_order(g, 12)),
+    ("strap blocks", |g| inputs::strap_blocks(g, 3_250)),
+    ("faulty calls", |g| inputs::faulty(g, 60_000)),
+    ("every byte", inputs::every_byte),
+    ("every q and m", inputs::every_curve_number_and_order),
+    ("small whole words", |g| inputs::every_small_word(g, 1)),
+    ("small broken words", |g| {
+        inputs::every_small_broken_word(g, 1)
+    }),
+];
+
+#[test]
+fn the_library_answers_as_the_reference() {
+    let seed = chosen_seed();
+    say(&format!("HERMITIAN_SEED={seed}"));
+    let mut all = Tally::new();
+    for tally in run_groups(seed) {
+        all.add(&tally);
+    }
+    say(&all.to_string());
+    assert!(all.total() >= LEAST_CALLS);
+    every_answer_came_up(&all);
+    every_order_was_accepted(&all);
+}
+
+/// All groups at once: the library says that threads may call it together.
+fn run_groups(seed: u64) -> Vec<Tally> {
+    std::thread::scope(|scope| {
+        let start =
+            |(number, group)| scope.spawn(move || run_group(group, seed.wrapping_add(number)));
+        let running: Vec<_> = (0..).zip(GROUPS).map(start).collect();
+        let finished = running.into_iter().map(|group| group.join());
+        finished
+            .map(|tally| tally.expect("a group failed; its message is above"))
+            .collect()
+    })
+}
+
+/// Each group has its own seed, so that changing one leaves the others.
+fn run_group((name, group): Group, seed: u64) -> Tally {
+    let start = Instant::now();
+    let tally = group(&mut Generator::with_seed(seed));
+    let seconds = start.elapsed().as_secs_f64();
+    say(&format!("{name}: {} calls, {seconds:.1} s", tally.total()));
+    tally
+}
+
+fn chosen_seed() -> u64 {
+    match std::env::var("HERMITIAN_SEED") {
+        Ok(text) => text.parse().expect("HERMITIAN_SEED is a number below 2^64"),
+        Err(_) => SystemTime::now()
+            .duration_since(UNIX_EPOCH)
+            .map_or(0, |time| time.as_nanos() as u64),
+    }
+}
+
+/// Straight to standard error, which the test harness doesn't capture.
+fn say(line: &str) {
+    // A run without a terminal must not fail for it.
+    let _ = writeln!(std::io::stderr(), "{line}");
+}
+
+/// Refusals 6 to 8 are those of sessions, which have no C entry; a message
+/// always has a word; a whole word never leaves several messages.
+fn every_answer_came_up(tally: &Tally) {
+    for entry in Entry::ALL {
+        for number in 0..=10 {
+            let possible = match number {
+                0..=5 => true,
+                9 => entry != Entry::Encode,
+                10 => entry == Entry::Recover,
+                _ => false,
+            };
+            let count = tally.of(entry, number);
+            assert_eq!(count > 0, possible, "{} {number}", entry.name());
+        }
+    }
+}
+
+fn every_order_was_accepted(tally: &Tally) {
+    for entry in Entry::ALL {
+        for (q, n) in [(2, 8), (4, 64)] {
+            for m in 0..n {
+                let count = tally.accepted_at(entry, q, m);
+                assert!(count > 0, "{} at q = {q}, m = {m}", entry.name());
+            }
+        }
+    }
+}

@@ -1,0 +1,74 @@
+//! What the compared calls have answered so far.
+
+use std::fmt;
+
+use crate::comparison::Entry;
+
+const NUMBERS: usize = 11;
+const ORDERS: usize = 64;
+
+/// Answers by entry and refusal number, 0 for an accepted call.
+#[derive(Clone)]
+pub struct Tally {
+    answers: [[u64; NUMBERS]; 3],
+    /// Accepted calls by entry and order, for q = 2 and for q = 4.
+    accepted: [[[u64; ORDERS]; 2]; 3],
+}
+
+impl Tally {
+    pub fn new() -> Tally {
+        Tally {
+            answers: [[0; NUMBERS]; 3],
+            accepted: [[[0; ORDERS]; 2]; 3],
+        }
+    }
+
+    pub fn count(&mut self, entry: Entry, q: u8, m: u8, number: u8) {
+        self.answers[entry as usize][usize::from(number)] += 1;
+        if number == 0 {
+            let curve = usize::from(q == 4);
+            self.accepted[entry as usize][curve][usize::from(m)] += 1;
+        }
+    }
+
+    pub fn add(&mut self, other: &Tally) {
+        let counts = self.answers.as_flattened_mut().iter_mut();
+        for (count, more) in counts.zip(other.answers.as_flattened()) {
+            *count += more;
+        }
+        let mine = self.accepted.as_flattened_mut().as_flattened_mut();
+        let others = other.accepted.as_flattened().as_flattened();
+        for (count, more) in mine.iter_mut().zip(others) {
+            *count += more;
+        }
+    }
+
+    pub fn of(&self, entry: Entry, number: u8) -> u64 {
+        self.answers[entry as usize][usize::from(number)]
+    }
+
+    pub fn accepted_at(&self, entry: Entry, q: u8, m: u8) -> u64 {
+        self.accepted[entry as usize][usize::from(q == 4)][usize::from(m)]
+    }
+
+    pub fn total(&self) -> u64 {
+        self.answers.as_flattened().iter().sum()
+    }
+}
+
+impl fmt::Display for Tally {
+    fn fmt(&self, f: &mut fmt::Formatter<'_>) -> fmt::Result {
+        writeln!(f, "{} calls compared; by refusal number:", self.total())?;
+        write!(f, "{:>9}", "")?;
+        for number in 0..NUMBERS {
+            write!(f, "{number:>9}")?;
+        }
+        for entry in Entry::ALL {
+            write!(f, "\n{:>9}", entry.name())?;
+            for count in self.answers[entry as usize] {
+                write!(f, "{count:>9}")?;
+            }
+        }
+        Ok(())
+    }
+}

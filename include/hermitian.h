@@ -1,0 +1,127 @@
+/*
+ * Hermitian block code of the strap link: the three entries that C calls.
+ *
+ * The library turns a message of k symbols into a word of n symbols (values of
+ * a polynomial at the n points of a Hermitian curve), reads whole words back,
+ * and recovers messages from words with missing symbols. It is written and
+ * proved in Rattle: on memory lent as described under "Memory" below, every
+ * call returns, stays within its buffers and gives the one answer of the rules.
+ * It doesn't correct wrong symbols; it says when no message fits.
+ *
+ *   q   curve number   n, length of a word   symbols     order m
+ *   2   small curve     8                    0 to 3      0 to 7
+ *   4   large curve    64                    0 to 15     0 to 63
+ *
+ * The strap uses q = 4, m = 37, k = 32. hermitian_message_length gives k for
+ * every q and m. One symbol is one byte. m + 1 symbols of a word are always
+ * enough to recover its message; fewer may be.
+ *
+ * Memory. The library trusts these four points and can't check them:
+ *   - Each pointer is good for as many bytes as the length beside it says.
+ *   - No pointer is NULL, not even beside the length 0: pass the address of any
+ *     object there. A NULL may work by luck, but nothing is promised of it.
+ *   - The two buffers of a call don't overlap.
+ *   - No other thread writes either buffer, or reads the output, meanwhile.
+ * Nor does anything check this header against the library's source: the two
+ * are compared by tests (host/README.md).
+ * Any length and any content are allowed: a wrong one is refused. The input is
+ * never written. LENT OUTPUT IS UNCHANGED ON A REFUSAL.
+ *
+ * Threads. There is no state outside a call: no globals, no heap, no setup. Any
+ * number of threads may call at once, each with an output buffer of its own;
+ * they may share an input. As built now, a call takes less than 8 KiB of stack;
+ * from the platform it needs memcpy and memset.
+ *
+ * Linking. `rt staticlib code` writes target/staticlib/libcode.a (x86-64).
+ */
+#ifndef HERMITIAN_H
+#define HERMITIAN_H
+
+#include <stddef.h>
+#include <stdint.h>
+
+#ifdef __cplusplus
+extern "C" {
+#endif
+
+/* Stands for a missing symbol; allowed in the word of hermitian_recover only. */
+#define HERMITIAN_MISSING 255
+
+/*
+ * Why a call was refused. The checks run in this order, and the first that
+ * applies decides. 6, 7 and 8 belong to receiving sessions, which C doesn't
+ * call; the entries below never give them.
+ */
+enum hermitian_refusal {
+    HERMITIAN_DONE = 0,
+    /* q is neither 2 nor 4. */
+    HERMITIAN_UNKNOWN_CURVE = 1,
+    /* m is n or more: above 7 (q = 2) or above 63 (q = 4). */
+    HERMITIAN_ORDER_TOO_HIGH = 2,
+    /* The input isn't as long as it must be: k for a message, n for a word. */
+    HERMITIAN_WRONG_INPUT_LENGTH = 3,
+    /* An input byte is no symbol. Second number: the lowest index of such a
+       byte, from 0. */
+    HERMITIAN_NOT_A_SYMBOL = 4,
+    /* The output isn't as long as it must be: n for a word, k for a message. */
+    HERMITIAN_WRONG_OUTPUT_LENGTH = 5,
+    /* Sessions: the place of an arrival is n or more. */
+    HERMITIAN_PLACE_TOO_HIGH = 6,
+    /* Sessions: the symbol of an arrival is no symbol of the curve. */
+    HERMITIAN_ARRIVAL_NOT_A_SYMBOL = 7,
+    /* Sessions: the place already holds a different symbol. */
+    HERMITIAN_PLACE_HOLDS_ANOTHER = 8,
+    /* No message has these symbols in its word: at least one of them is wrong. */
+    HERMITIAN_NO_MESSAGE_FITS = 9,
+    /* Too much is missing: two or more messages fit. Second number: r, where
+       exactly (q * q) to the power r messages fit. Only from recover. */
+    HERMITIAN_SEVERAL_MESSAGES_FIT = 10
+};
+
+/* Writes the word of a message: message_length must be k, word_length n. */
+uint32_t hermitian_encode(uint8_t q, uint8_t m,
+                          const uint8_t *message, size_t message_length,
+                          uint8_t *word, size_t word_length);
+
+/* Writes the message of a whole word: word_length must be n, message_length k.
+   HERMITIAN_MISSING counts as a bad value here. */
+uint32_t hermitian_unencode(uint8_t q, uint8_t m,
+                            const uint8_t *word, size_t word_length,
+                            uint8_t *message, size_t message_length);
+
+/* Writes the only message that fits a word in which HERMITIAN_MISSING stands at
+   each missing place: word_length must be n, message_length k. */
+uint32_t hermitian_recover(uint8_t q, uint8_t m,
+                           const uint8_t *word, size_t word_length,
+                           uint8_t *message, size_t message_length);
+
+/* What a call returned is 0 if it was done; otherwise it is the refusal number
+   times 65536 plus the second number, which is 0 unless said above. */
+static inline unsigned hermitian_number(uint32_t answer) { return (unsigned)(answer >> 16); }
+static inline unsigned hermitian_second(uint32_t answer) { return (unsigned)(answer & 0xFFFFu); }
+
+/* n, the length of a word; 0 if q names no curve. */
+static inline size_t hermitian_word_length(uint8_t q) {
+    return q == 2 || q == 4 ? (size_t)q * q * q : 0;
+}
+
+/* k, the length of a message: the number of terms x^i * y^j with j below q and
+   weight q * i + (q + 1) * j up to m; 0 if q or m would be refused. */
+static inline size_t hermitian_message_length(uint8_t q, uint8_t m) {
+    size_t length = 0;
+    size_t weight_of_y_part;
+    if (m >= hermitian_word_length(q)) {
+        return 0;
+    }
+    for (weight_of_y_part = 0; weight_of_y_part < (size_t)q * (q + 1u) && weight_of_y_part <= m;
+         weight_of_y_part += q + 1u) {
+        length += (m - weight_of_y_part) / q + 1;
+    }
+    return length;
+}
+
+#ifdef __cplusplus
+}
+#endif
+
+#endif

@@ -57,7 +57,7 @@ unfolding invertible
 invertible4 = tt
 
 -- what holds of each curve's count of bits
-each : (P : ℕ → Type 0) → P 2 → P 4 → (q : ℕ) → P (bitsOf q)
+pub each : (P : ℕ → Type 0) → P 2 → P 4 → (q : ℕ) → P (bitsOf q)
 each P p2 p4 q = choice (eqb q 2)
   where
     choice : (t : Bool) → P (cond t 2 4)

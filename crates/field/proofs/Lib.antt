@@ -9,3 +9,4 @@ pub mod Powers
 pub mod Outcomes
 pub mod Curves
 pub mod Entries
+pub mod Formula

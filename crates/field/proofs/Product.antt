@@ -118,7 +118,7 @@ combine-power e (suc (suc n)) i b h =
 -- ---- the laws of the product
 
 module _ (e : ℕ) (two : 2 ≤ e) where
-  timesZ-lt : (a : ℕ) → timesZ e a < 2 ^ e
+  pub timesZ-lt : (a : ℕ) → timesZ e a < 2 ^ e
   unfolding timesZ
   timesZ-lt a =
       plus-lt e (a * 2 % 2 ^ e) (a * 2 / 2 ^ e % 2 * 3) (mod-lt (a * 2) (pow-pos e))

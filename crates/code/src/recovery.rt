@@ -95,7 +95,8 @@ fn bring_place(
     let y = ys[at];
     let mut row = [0u8; 64];
     write_equation(q, m, x, y, s, &mut row);
-    system::bring_in(q, 64, k, work, &mut row)
+    let n = (k / 16 + 1) * 16;
+    system::bring_in(q, 64, n, k, work, &mut row)
 }
 
 // Brings in what stands at place p: 255 brings nothing.

@@ -14,11 +14,11 @@ use Rattle.field.proofs.Plus.{plus-zero, plus-self}
 use Rattle.field.proofs.FieldLaws.{times-zero, times-one-right}
 use Rattle.poly.specs.Ranges.{part}
 use Rattle.poly.specs.Linear.{entry, Holds}
-use Rattle.poly.specs.Rows.{eliminated}
+use Rattle.poly.specs.Rows.{added}
 use Rattle.poly.specs.Systems.{System, flat, WellFormed, Equation, Reducing}
 use Rattle.poly.proofs.Parts.{part-at}
 use Rattle.poly.proofs.Linear.{dot-cong, row-operation}
-use Rattle.poly.proofs.RowOperations.{length-eliminated, eliminated-lt, eliminated-at}
+use Rattle.poly.proofs.RowOperations.{length-added, added-at}
 
 -- equations with the same coefficients and right-hand side hold together
 pub holds-cong : (F : Field) (k : ℕ) (r s v : ℕ → ℕ) → ((j : ℕ) → j ≤ k → r j ≡ s j) → Holds F k r v → Holds F k s v
@@ -43,8 +43,8 @@ module _ (F : Field) (stride k : ℕ) (work row₀ : List ℕ) (wf : WellFormed 
           same = R .same;
         }
 
-    -- row p - 1 is there, and is taken out of row
-    module _ (there : entry work ((p - 1) * stride + (p - 1)) ≡ 0 → ⊥) where
+    -- row p - 1 is there, and its first n elements are taken out of row
+    module _ (n : ℕ) (kn : k < n) (ns : n ≤ stride) (nr : n ≤ length row) (there : entry work ((p - 1) * stride + (p - 1)) ≡ 0 → ⊥) where
       abbrev i : ℕ
       i = p - 1
 
@@ -55,13 +55,10 @@ module _ (F : Field) (stride k : ℕ) (work row₀ : List ℕ) (wf : WellFormed 
       taken = part work (i * stride) (i * stride + stride)
 
       abbrev new : List ℕ
-      new = eliminated F c p k taken row
+      new = added F c n taken row
 
       ik : i < k
       ik = omega (arith, R .within)
-
-      kd : k < length row
-      kd = omega (arith, R .long, eq .long)
 
       one : S .row i i ≡ 1
       one = ⊎-elim (λ z. absurd (there z)) (λ o. o) (wf .diagonal i ik)
@@ -76,9 +73,7 @@ module _ (F : Field) (stride k : ℕ) (work row₀ : List ℕ) (wf : WellFormed 
       later j h l = wf .triangle i j (omega arith) l present
 
       new-at : (j : ℕ) → j ≤ k → entry new j ≡ plus (entry row j) (F .times c (S .row i j))
-      new-at j h =
-          eliminated-at F c p k taken row (R .within) kd (λ j a b. taken-at j (omega arith) ∙ later j a b) j h
-          ∙ ap (λ (x : ℕ). plus (entry row j) (F .times c x)) (taken-at j h)
+      new-at j h = added-at F c n taken row nr j (omega arith) ∙ ap (λ (x : ℕ). plus (entry row j) (F .times c x)) (taken-at j h)
 
       new-zero : (j : ℕ) → (i ≡ j) ⊎ (i < j) → j < k → entry new j ≡ 0
       new-zero j (inl e) l =
@@ -89,11 +84,11 @@ module _ (F : Field) (stride k : ℕ) (work row₀ : List ℕ) (wf : WellFormed 
           new-at j (omega arith) ∙ ap (plus (entry row j)) (ap (F .times c) (later j (omega arith) l) ∙ times-zero F c) ∙ plus-zero (entry row j)
           ∙ R .zeros j (omega arith) l
 
-      pub reducing-turn : Reducing F k S row₀ (eliminated F (entry row (p - 1)) p k (part work ((p - 1) * stride) ((p - 1) * stride + stride)) row) (p - 1)
+      pub reducing-turn : Reducing F k S row₀ (added F (entry row (p - 1)) n (part work ((p - 1) * stride) ((p - 1) * stride + stride)) row) (p - 1)
       reducing-turn =
           record {
-            long = length-eliminated F c p k taken row (R .within) kd ∙ R .long;
-            symbols = eliminated-lt F c p k taken row (R .within) kd (R .symbols);
+            long = length-added F c n taken row nr ∙ R .long;
+            symbols = λ j h. rw (new-at j h) (F .plus-lt _ _ (R .symbols j h) (F .times-lt c _));
             within = omega (arith, R .within);
             zeros = λ j h l. new-zero j (eq-or-lt-of-le h) l;
             same = λ v s.

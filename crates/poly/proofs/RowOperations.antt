@@ -14,7 +14,7 @@ use Rattle.field.proofs.Plus.{plus-zero}
 use Rattle.field.proofs.FieldLaws.{times-zero}
 use Rattle.poly.specs.Ranges.{Below, part}
 use Rattle.poly.specs.Linear.{entry}
-use Rattle.poly.specs.Rows.{added, scaled, divided, stored, eliminated, placed}
+use Rattle.poly.specs.Rows.{added, scaled, divided, stored, placed}
 use Rattle.poly.proofs.Writes.{length-writes, writes-in, writes-out, below-writes}
 use Rattle.poly.proofs.Parts.{row-before, length-part, below-part, length-put, put-low, put-in, put-high, below-put}
 
@@ -25,49 +25,15 @@ module _ (F : Field) (i n : ℕ) (row : List ℕ) (fits : n ≤ length row) wher
   unfolding divided scaled
   divided-at j h = writes-in row _ n j h fits
 
-module _ (F : Field) (c n k : ℕ) (src dst : List ℕ) (nk : n ≤ k) (kd : k < length dst) where
-  abbrev sums : ℕ → ℕ
-  sums j = plus (entry dst j) (F .times c (entry src j))
+-- dst with a multiple of src added, at the first n places
+module _ (F : Field) (c n : ℕ) (src dst : List ℕ) (nd : n ≤ length dst) where
+  pub length-added : length (added F c n src dst) ≡ length dst
+  unfolding added
+  length-added = length-writes dst _ n
 
-  pub length-eliminated : length (eliminated F c n k src dst) ≡ length dst
-  unfolding eliminated added
-  length-eliminated = length-set (added F c n src dst) k _ ∙ length-writes dst _ n
-
-  -- the first n, and the one at k
-  eliminated-in : (j : ℕ) → (j < n) ⊎ (j ≡ k) → entry (eliminated F c n k src dst) j ≡ sums j
-  unfolding eliminated added
-  eliminated-in j (inl h) = getD-set-other (added F c n src dst) k j _ 0 (omega arith) ∙ writes-in dst sums n j h (omega arith)
-  eliminated-in j (inr e) =
-      rw e
-      (getD-set-same (added F c n src dst) k _ 0 (rw (length-writes dst sums n) kd)
-      ∙ ap (λ (x : ℕ). plus x (F .times c (entry src k))) (writes-out dst sums n k nk))
-
-  -- the others
-  eliminated-out : (j : ℕ) → n ≤ j → (j ≡ k → ⊥) → entry (eliminated F c n k src dst) j ≡ entry dst j
-  unfolding eliminated added
-  eliminated-out j h e = getD-set-other (added F c n src dst) k j _ 0 e ∙ writes-out dst sums n j h
-
-  which : (j : ℕ) → ((j < n) ⊎ (j ≡ k)) ⊎ ((n ≤ j) × (j ≡ k → ⊥))
-  which j = go (decLt j n) (ℕ-discrete j k)
-    where
-      go : Dec (j < n) → Dec (j ≡ k) → ((j < n) ⊎ (j ≡ k)) ⊎ ((n ≤ j) × (j ≡ k → ⊥))
-      go (yes h) e = inl (inl h)
-      go (no h) (yes e) = inl (inr e)
-      go (no h) (no e) = inr (omega arith, e)
-
-  pub eliminated-lt : ((j : ℕ) → j ≤ k → entry dst j < F .size) → (j : ℕ) → j ≤ k → entry (eliminated F c n k src dst) j < F .size
-  eliminated-lt h j l =
-      ⊎-elim (λ i. rw (eliminated-in j i) (F .plus-lt _ _ (h j l) (F .times-lt c _))) (λ o. rw (eliminated-out j (o .0) (o .1)) (h j l)) (which j)
-
-  -- where src is 0 from n to k, the whole of it is added
-  pub eliminated-at : ((j : ℕ) → n ≤ j → j < k → entry src j ≡ 0) → (j : ℕ) → j ≤ k
-      → entry (eliminated F c n k src dst) j ≡ plus (entry dst j) (F .times c (entry src j))
-  eliminated-at z j h =
-      ⊎-elim (eliminated-in j)
-      (λ o.
-      eliminated-out j (o .0) (o .1)
-      ∙ sym (ap (plus (entry dst j)) (ap (F .times c) (z j (o .0) (omega (arith, o .1))) ∙ times-zero F c) ∙ plus-zero (entry dst j)))
-      (which j)
+  pub added-at : (j : ℕ) → j < n → entry (added F c n src dst) j ≡ plus (entry dst j) (F .times c (entry src j))
+  unfolding added
+  added-at j h = writes-in dst _ n j h nd
 
 -- ---- a row of a flat list
 

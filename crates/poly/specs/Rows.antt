@@ -1,7 +1,6 @@
 -- Row operations on lists.
 use mathlib.Core.List.{List}
 use Prim.Native.Nat.{ℕ, _+_, _*_}
-use lib.ListN.{set}
 use Rattle.field.specs.Plus.{plus}
 use Rattle.field.specs.Field.{Field}
 use Rattle.poly.specs.Ranges.{writes, part, put}
@@ -22,10 +21,6 @@ divided F i n row = scaled F (F .inverse (entry row i)) n row
 -- dst with the first n elements of src in the place of its own
 unfoldable pub stored : ℕ → List ℕ → List ℕ → List ℕ
 stored n src dst = writes dst n (entry src)
-
--- dst with c times src added, at the first n places and at k
-unfoldable pub eliminated : Field → ℕ → ℕ → ℕ → List ℕ → List ℕ → List ℕ
-eliminated F c n k src dst = set (added F c n src dst) k (plus (entry (added F c n src dst) k) (F .times c (entry src k)))
 
 -- work with the first n elements of row in row i, which stands from i * stride on
 unfoldable pub placed : ℕ → ℕ → ℕ → List ℕ → List ℕ → List ℕ

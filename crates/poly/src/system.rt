@@ -5,7 +5,7 @@ ghost use lib.ListN.{length};
 ghost use Rattle.field.specs.Plus.{plus};
 ghost use Rattle.field.proofs.Fields.{fieldOf};
 ghost use Rattle.poly.specs.Linear.{entry, dot};
-ghost use Rattle.poly.specs.Rows.{divided, eliminated, placed};
+ghost use Rattle.poly.specs.Rows.{divided, placed};
 use crate::rows;
 ghost use Rattle.poly.specs.Systems.{flat, Full, WellFormed, Equation, Reduced, Brought, Solves};
 
@@ -31,20 +31,12 @@ fn dot(q: u8, start: u8, n: usize, a: &[u8], b: &[u8]) -> u8
     r
 }
 
-// dst += c * src, at the first n coefficients and at the right-hand side, which stands at k
-fn eliminate(q: u8, c: u8, n: usize, k: usize, src: &[u8], dst: &mut [u8])
-    requires { ⌜ (n ≤ k) × (k < length (now dst)) ⌝ }
-    requires { ⌜ (c < fieldOf q .size) × Equation (fieldOf q) k (now src) ⌝ }
-    ensures { λ _. ⌜ now (dst .exit) ≡ eliminated (fieldOf q) c n k (now (src .entry)) (now (dst .entry)) ⌝ }
-{
-    rows::add_scaled(q, c, n, src, dst);
-    dst[k] = dst[k] ^ field::symbol::times(q, c, src[k]);
-}
-
 // Takes the rows of work that are present out of row. Answers 0 where no coefficient is left, and else one more than the
-// place of the last that is left, where work has no row.
-fn reduce(q: u8, stride: usize, k: usize, work: &[u8], row: &mut [u8]) -> usize
+// place of the last that is left, where work has no row. The first n elements of a row are added, k and more: the loop is
+// fastest where n is a multiple of 16.
+fn reduce(q: u8, stride: usize, n: usize, k: usize, work: &[u8], row: &mut [u8]) -> usize
     requires { ⌜ WellFormed (fieldOf q) stride k (now work) × Equation (fieldOf q) k (now row) ⌝ }
+    requires { ⌜ (k < n) × (n ≤ stride) × (n ≤ length (now row)) ⌝ }
     ensures { λ r. ⌜ Reduced (fieldOf q) k (flat stride k (now (work .entry))) (now (row .entry)) (now (row .exit)) r ⌝ }
 {
     let mut p = k;
@@ -57,7 +49,7 @@ fn reduce(q: u8, stride: usize, k: usize, work: &[u8], row: &mut [u8]) -> usize
                 return p;
             }
             let end = base + stride;
-            eliminate(q, c, p, k, &work[base..end], row);
+            rows::add_scaled(q, c, n, &work[base..end], row);
         }
         p = i;
     }
@@ -78,13 +70,14 @@ fn place(q: u8, stride: usize, k: usize, i: usize, work: &mut [u8], row: &mut [u
     rows::copy(n, row, &mut work[base..end]);
 }
 
-// Brings one more equation into the system. Row is used up.
-pub fn bring_in(q: u8, stride: usize, k: usize, work: &mut [u8], row: &mut [u8]) -> Effect
+// Brings one more equation into the system. Row is used up. The first n elements of a row are in use, k and more.
+pub fn bring_in(q: u8, stride: usize, n: usize, k: usize, work: &mut [u8], row: &mut [u8]) -> Effect
     requires { ⌜ WellFormed (fieldOf q) stride k (now work) × Equation (fieldOf q) k (now row) ⌝ }
+    requires { ⌜ (k < n) × (n ≤ stride) × (n ≤ length (now row)) ⌝ }
     ensures { λ r. ⌜ WellFormed (fieldOf q) stride k (now (work .exit)) ⌝ }
     ensures { λ r. ⌜ Brought (fieldOf q) stride k (now (work .entry)) (entry (now (row .entry))) (now (work .exit)) r ⌝ }
 {
-    let p = reduce(q, stride, k, work, row);
+    let p = reduce(q, stride, n, k, work, row);
     if p == 0 {
         if row[k] == 0 {
             return Effect::Redundant;

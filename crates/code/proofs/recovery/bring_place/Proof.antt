@@ -69,6 +69,12 @@ write-equation-requires c κs =
       (omega (arith, z .size), rw (point y .3) (ys-below q (s .pre .0 .0 .curve) _ (rw (x-is y) at small) (s .args .p % q))),
     )
 
+add-n : tie.Need-add-n
+add-n c = omega arith
+
+mul-n : tie.Need-mul-n
+mul-n c = omega arith
+
 slice-aggregate-bring-in : tie.Need-slice-aggregate-bring-in
 slice-aggregate-bring-in c = search needs
 
@@ -79,10 +85,14 @@ bring-in-requires c κs =
     let e = c .before .before .before .write-equation in
     let y = c .before .before .before .before .before .before in
     let is-k = sym (s .pre .0 .3) in
-    let long : size (x .q) (x .m) < length (e .last .1 .1 .1 .1 .1 .0) = omega (arith, e .kept .1 .1 .1 .1 .1 .0, s .pre .1 .room) in (
-      subst (λ (k : ℕ). WellFormed (fieldOf (x .q)) 64 k (now (x .work))) is-k (s .pre .1),
-      subst (λ (k : ℕ). Equation (fieldOf (x .q)) k (e .last .1 .1 .1 .1 .1 .0)) is-k
-          (equation-formed (x .q) (now (x .columns)) (x .m) (x .p) (x .s) _ _ _ (e .ensures) (x-is y) (point y .3) (s .pre .0 .4) long),
+    let room = s .pre .1 .room in
+    let long : size (x .q) (x .m) < length (e .last .1 .1 .1 .1 .1 .0) = omega (arith, e .kept .1 .1 .1 .1 .1 .0, room) in (
+      (
+        subst (λ (k : ℕ). WellFormed (fieldOf (x .q)) 64 k (now (x .work))) is-k (s .pre .1),
+        subst (λ (k : ℕ). Equation (fieldOf (x .q)) k (e .last .1 .1 .1 .1 .1 .0)) is-k
+            (equation-formed (x .q) (now (x .columns)) (x .m) (x .p) (x .s) _ _ _ (e .ensures) (x-is y) (point y .3) (s .pre .0 .4) long),
+      ),
+      (omega arith, omega (arith, is-k, room), omega (arith, is-k, room, e .kept .1 .1 .1 .1 .1 .0)),
     )
 
 same-length : tie.Need-same-length
@@ -96,7 +106,7 @@ returns c =
     let e = c .before .before .before .before .before .before .before .write-equation in
     let y = c .before .before .before .before .before .before .before .before .before .before in
     let is-k = s .pre .0 .3 in
-    let work = b .last .1 .1 .1 .0 in (
+    let work = b .last .1 .1 .1 .1 .0 in (
       subst (λ (k : ℕ). WellFormed (fieldOf (x .q)) 64 k work) is-k (b .ensures .0),
       place-brought (x .q) (now (x .columns)) (x .m) (x .p) (x .s) _ _ _ (e .ensures) (x-is y) (point y .3) (now (x .work)) work (b .result)
           (subst (λ (k : ℕ). Brought (fieldOf (x .q)) 64 k (now (x .work)) (entry (e .last .1 .1 .1 .1 .1 .0)) work (b .result)) is-k (b .ensures .1)),
@@ -115,6 +125,8 @@ bring-place-spec =
     array-read-y
     slice-aggregate-write-equation
     write-equation-requires
+    add-n
+    mul-n
     slice-aggregate-bring-in
     bring-in-requires
     same-length

@@ -24,7 +24,7 @@ returns : tie.Need-returns
 returns c =
     let s = c .before .before .before .before .before .before .before .before .before .before in
     let r = c .before .before .before .before .before .reduce in
-    (s .pre .0, (redundant _ (s .args .k) _ (s .args .row .now) _ (rw (c .before .before .if1 .taken) at (r .ensures .reducing)) (c .if2 .taken), refl))
+    (s .pre .0 .0, (redundant _ (s .args .k) _ (s .args .row .now) _ (rw (c .before .before .if1 .taken) at (r .ensures .reducing)) (c .if2 .taken), refl))
 
 same-length-3 : tie.Need-same-length-3
 same-length-3 c = search needs
@@ -36,7 +36,7 @@ returns-2 : tie.Need-returns-2
 returns-2 c =
     let s = c .before .before .before .before .before .before .before .before .before .before in
     let r = c .before .before .before .before .before .reduce in
-    (s .pre .0, (contradiction _ (s .args .k) _ (s .args .row .now) _ (rw (c .before .before .if1 .taken) at (r .ensures .reducing)) (c .if2 .left), refl))
+    (s .pre .0 .0, (contradiction _ (s .args .k) _ (s .args .row .now) _ (rw (c .before .before .if1 .taken) at (r .ensures .reducing)) (c .if2 .left), refl))
 
 sub-place : tie.Need-sub-place
 sub-place c = search needs
@@ -48,8 +48,8 @@ place-requires c κs =
     let R = r .ensures in
     let pos : 0 < r .result = omega (arith, c .before .before .if1 .left) in
     let w = s .args .work .now in (
-      (s .pre .0, reduced-equation _ (s .args .stride) (s .args .k) w (s .args .row .now) _ _ R pos (s .pre .0) (s .pre .1)),
-      (pivot-within _ (s .args .stride) (s .args .k) w (s .args .row .now) _ _ R pos (s .pre .0) (s .pre .1), R .pivot pos .0),
+      (s .pre .0 .0, reduced-equation _ (s .args .stride) (s .args .k) w (s .args .row .now) _ _ R pos (s .pre .0 .0) (s .pre .0 .1)),
+      (pivot-within _ (s .args .stride) (s .args .k) w (s .args .row .now) _ _ R pos (s .pre .0 .0) (s .pre .0 .1), R .pivot pos .0),
     )
 
 same-length-5 : tie.Need-same-length-5
@@ -66,10 +66,10 @@ returns-3 c =
     let pos : 0 < r .result = omega (arith, c .before .before .before .before .before .before .before .if1 .left) in
     let w = s .args .work .now in
     let e = c .before .before .before .before .place .ensures in (
-      rw e (pivot-formed _ (s .args .stride) (s .args .k) w (s .args .row .now) _ _ R pos (s .pre .0) (s .pre .1)),
+      rw e (pivot-formed _ (s .args .stride) (s .args .k) w (s .args .row .now) _ _ R pos (s .pre .0 .0) (s .pre .0 .1)),
       (
-        rw e (pivot-joined _ (s .args .stride) (s .args .k) w (s .args .row .now) _ _ R pos (s .pre .0) (s .pre .1)),
-        rw e (pivot-rank _ (s .args .stride) (s .args .k) w (s .args .row .now) _ _ R pos (s .pre .0) (s .pre .1)),
+        rw e (pivot-joined _ (s .args .stride) (s .args .k) w (s .args .row .now) _ _ R pos (s .pre .0 .0) (s .pre .0 .1)),
+        rw e (pivot-rank _ (s .args .stride) (s .args .k) w (s .args .row .now) _ _ R pos (s .pre .0 .0) (s .pre .0 .1)),
       ),
     )
 

@@ -13,28 +13,28 @@ use Rattle.poly.proofs.system.reduce.Statement.{statement}
 use Rattle.poly.proofs.system.reduce.Tie as tie
 
 abbrev Inv-loop : tie.InvT-loop
-Inv-loop q stride k work row₀ p₀ row p = Reducing (fieldOf q) k (flat stride k work) row₀ row p
+Inv-loop q stride n k work row₀ p₀ row p = Reducing (fieldOf q) k (flat stride k work) row₀ row p
 
 abbrev μ-loop : tie.MeasureT-loop
-μ-loop q stride k work row₀ p₀ row p = p
+μ-loop q stride n k work row₀ p₀ row p = p
 
 -- row p - 1 is within work, in a turn
 fits : (c : tie.In-loop Inv-loop μ-loop) → let s = c .before .before .before .before in
     (c .before .loop .p - 1) * s .args .stride + s .args .stride ≤ length (s .args .work .now)
 fits c =
     let s = c .before .before .before .before in
-    row-fits _ (s .args .stride) (s .args .k) (s .args .work .now) (s .pre .0) (c .before .loop .p - 1) (omega (arith, c .before .loop .inv .within))
+    row-fits _ (s .args .stride) (s .args .k) (s .args .work .now) (s .pre .0 .0) (c .before .loop .p - 1) (omega (arith, c .before .loop .inv .within))
 
 loop-holds : tie.Need-loop-holds Inv-loop μ-loop
 loop-holds c =
     let s = c .before .before in
-    reducing-start _ (s .args .stride) (s .args .k) (s .args .work .now) (s .args .row .now) (s .pre .0) (s .pre .1)
+    reducing-start _ (s .args .stride) (s .args .k) (s .args .work .now) (s .args .row .now) (s .pre .0 .0) (s .pre .0 .1)
 
 sub-i : tie.Need-sub-i Inv-loop μ-loop
 sub-i c = omega arith
 
 slice-read-c : tie.Need-slice-read-c Inv-loop μ-loop
-slice-read-c c = omega (arith, c .before .before .loop .inv .long, c .before .before .loop .inv .within, c .before .before .before .before .before .pre .1 .long)
+slice-read-c c = omega (arith, c .before .before .loop .inv .long, c .before .before .loop .inv .within, c .before .before .before .before .before .pre .0 .1 .long)
 
 mul-base : tie.Need-mul-base Inv-loop μ-loop
 mul-base c = omega (arith, fits (c .before .before))
@@ -58,29 +58,23 @@ returns c =
 add-end : tie.Need-add-end Inv-loop μ-loop
 add-end c = omega (arith, fits (c .before .before .before .before))
 
-sub-eliminate : tie.Need-sub-eliminate Inv-loop μ-loop
-sub-eliminate c = omega arith
+sub-add-scaled : tie.Need-sub-add-scaled Inv-loop μ-loop
+sub-add-scaled c = omega arith
 
-part-eliminate-start : tie.Need-part-eliminate-start Inv-loop μ-loop
-part-eliminate-start c = omega arith
+part-add-scaled-start : tie.Need-part-add-scaled-start Inv-loop μ-loop
+part-add-scaled-start c = omega arith
 
-part-eliminate-end : tie.Need-part-eliminate-end Inv-loop μ-loop
-part-eliminate-end c = omega (arith, fits (c .before .before .before .before))
+part-add-scaled-end : tie.Need-part-add-scaled-end Inv-loop μ-loop
+part-add-scaled-end c = omega (arith, fits (c .before .before .before .before))
 
-eliminate-requires : tie.Need-eliminate-requires Inv-loop μ-loop
-eliminate-requires c κs =
+add-scaled-requires : tie.Need-add-scaled-requires Inv-loop μ-loop
+add-scaled-requires c κs =
     let s = c .before .before .before .before .before .before .before .before .before .before in
     let l = c .before .before .before .before .before .before .before .loop in
     let base : ℕ = (l .p - 1) * s .args .stride in
-    let n = length-part (s .args .work .now) base (base + s .args .stride) (omega arith) (fits (c .before .before .before .before .before .before)) in (
-      (l .inv .within, omega (arith, l .inv .long)),
-      (
-        l .inv .symbols (l .p - 1) (omega (arith, l .inv .within)),
-        record {
-          long = omega (arith, n, s .pre .0 .room);
-          symbols = λ j h. below-part _ (s .args .work .now) base (base + s .args .stride) (s .pre .0 .symbols) j;
-        },
-      ),
+    let long = length-part (s .args .work .now) base (base + s .args .stride) (omega arith) (fits (c .before .before .before .before .before .before)) in (
+      (omega (arith, long, s .pre .1 .1), omega (arith, l .inv .long, s .pre .1 .2)),
+      (l .inv .symbols (l .p - 1) (omega (arith, l .inv .within)), λ j h. below-part _ (s .args .work .now) base (base + s .args .stride) (s .pre .0 .0 .symbols) j),
     )
 
 loop-less : tie.Need-loop-less Inv-loop μ-loop
@@ -90,9 +84,9 @@ loop-again : tie.Need-loop-again Inv-loop μ-loop
 loop-again c =
     let s = c .before .before .before .before .before .before .before .before .before .before .before .before .before in
     let l = c .before .before .before .before .before .before .before .before .before .before .loop in
-    rw (c .before .before .eliminate .ensures)
-    (reducing-turn _ (s .args .stride) (s .args .k) (s .args .work .now) (s .args .row .now) (s .pre .0) (s .pre .1) (l .row) (l .p) (l .inv)
-    (c .before .before .before .before .before .before .before .before .before .loop-test .taken) (c .before .before .before .before .before .if2 .left))
+    rw (c .before .before .add-scaled .ensures)
+    (reducing-turn _ (s .args .stride) (s .args .k) (s .args .work .now) (s .args .row .now) (s .pre .0 .0) (s .pre .0 .1) (l .row) (l .p) (l .inv)
+    (c .before .before .before .before .before .before .before .before .before .loop-test .taken) (s .args .n) (s .pre .1 .0) (s .pre .1 .1) (omega (arith, l .inv .long, s .pre .1 .2)) (c .before .before .before .before .before .if2 .left))
 
 loop-less-2 : tie.Need-loop-less-2 Inv-loop μ-loop
 loop-less-2 c = omega arith
@@ -101,7 +95,7 @@ loop-again-2 : tie.Need-loop-again-2 Inv-loop μ-loop
 loop-again-2 c =
     let s = c .before .before .before .before .before .before in
     let l = c .before .before .before .loop in
-    reducing-skip _ (s .args .stride) (s .args .k) (s .args .work .now) (s .args .row .now) (s .pre .0) (s .pre .1) (l .row) (l .p) (l .inv)
+    reducing-skip _ (s .args .stride) (s .args .k) (s .args .work .now) (s .args .row .now) (s .pre .0 .0) (s .pre .0 .1) (l .row) (l .p) (l .inv)
     (c .before .before .loop-test .taken) (c .if1 .left)
 
 same-length-2 : tie.Need-same-length-2 Inv-loop μ-loop
@@ -128,10 +122,10 @@ reduce-spec =
     same-length
     returns
     add-end
-    sub-eliminate
-    part-eliminate-start
-    part-eliminate-end
-    eliminate-requires
+    sub-add-scaled
+    part-add-scaled-start
+    part-add-scaled-end
+    add-scaled-requires
     loop-less
     loop-again
     loop-less-2

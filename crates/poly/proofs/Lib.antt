@@ -7,6 +7,7 @@ pub mod Parts
 pub mod Entries
 pub mod Filter
 pub mod Values
+pub mod Horner
 pub mod Keep
 pub mod Span
 pub mod SpanDimension

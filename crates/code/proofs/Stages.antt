@@ -1,20 +1,21 @@
 -- The two stages of encoding: what their turns leave, and that they leave the word.
 -- Assumes nothing.
 use mathlib.Core.List.{List, map}
-use mathlib.Core.Path.{_≡_, refl, sym, ap, _∙_}
+use mathlib.Core.Path.{_≡_, refl, sym, ap, ap₂, _∙_, subst}
 use Prim.Native.Nat.{ℕ, zero, suc, _+_, _-_, _*_, _/_, _%_, _≤_, _<_}
 use native.Mathlib.Nat.{mul-suc, mul-comm, mul-le-mul, mul-le-mul-left, div-add-mod, mod-lt, div-lt-iff-lt-mul}
 use native.Mathlib.Numerals.{add-one}
-use native.Mathlib.Decide.{decLt}
+use native.Mathlib.Decide.{decLt, ℕ-discrete}
 use native.Mathlib.Omega.{arith}
 use borrow.Rule.Slice.PartMut.{putMid}
-use lib.ListN.{length, getD, List·getD-eq-default, length-map, replicate}
+use lib.ListN.{length, getD, List·getD-eq-default, length-map}
 use Rattle.field.specs.Curve.{IsCurve}
 use Rattle.field.proofs.Fields.{fieldOf}
 use Rattle.field.proofs.FieldLaws.{zero-lt}
 use Rattle.field.proofs.Curves.{sizes}
-use Rattle.poly.specs.Polynomials.{value}
-use Rattle.poly.specs.Ranges.{Below, Blocks, part}
+use Rattle.poly.specs.Polynomials.{value, Valued}
+use Rattle.poly.specs.Rows.{Strewn}
+use Rattle.poly.specs.Ranges.{Below, Blocks}
 use Rattle.poly.proofs.Values.{value-cong, value-lt}
 use Rattle.poly.proofs.Lists.{getD-map}
 use Rattle.poly.proofs.Bools.{true-or-false}
@@ -23,13 +24,14 @@ use Rattle.poly.proofs.Parts.{below-back}
 use Rattle.poly.proofs.Blocks.{blocks-none, blocks-more, blocks-ext}
 use mathlib.Core.Logic.{inl, inr}
 use Rattle.code.specs.Points.{ysOf}
-use Rattle.code.specs.Terms.{isTerm, size}
+use Rattle.code.specs.Terms.{isTerm}
 use Rattle.code.specs.Word.{valueAt, wordOf}
 use Rattle.code.specs.Grid.{entryOf, rank, scatterBelow, scatter}
 use Rattle.code.specs.Columns.{Columns}
-use Rattle.code.specs.Encodable.{Encodable, Rowed, rowValue, columnValue}
+use Rattle.code.specs.Encodable.{Encodable, Rowed, ValuedAt, rowValue, columnValue}
 use Rattle.code.proofs.GridEntries.{scatter-zero, scatter-term, scatter-none}
 use Rattle.code.proofs.GridLaw.{two-stages}
+use Rattle.code.proofs.Weights.{remainder}
 use Rattle.code.proofs.Columns.{length-ys, y-symbol, word-at, word-length}
 
 pub columns-below : (q : ℕ) (columns : List ℕ) → Columns q columns → Below (fieldOf q .size) columns
@@ -80,19 +82,49 @@ module _ (q : ℕ) (columns : List ℕ) where
         | no d ↦ rw (List·getD-eq-default last 0 {n = t} (omega (arith, long))) (zero-lt (fieldOf q))
       ]
 
-  pub columns-turn : (rows word last ys : List ℕ) (t at : ℕ) → Columns q columns → t < length columns → Blocks q (columnValue q columns rows) word t → at ≡ q * t
-      → at + q ≤ length word → ys ≡ ysOf q (getD columns t 0) → last ≡ map (value (fieldOf q) q (λ j. getD rows (length columns * j + t) 0)) ys
-      → Blocks q (columnValue q columns rows) (putMid at (at + q - at) word last) (t + 1)
-  columns-turn rows word last ys t at cs l h is-at fits is-ys e =
-      blocks-more q (columnValue q columns rows) word last t at (at + q) h is-at refl fits
-      (ap length e ∙ length-map ys f ∙ ap length is-ys ∙ long)
-      (λ s b. mapped f ys last e s (omega (arith, ap length is-ys, long)) ∙ ap (λ (u : List ℕ). f (getD u s 0)) is-ys)
-    where
-      f : ℕ → ℕ
-      f = value (fieldOf q) q (λ j. getD rows (length columns * j + t) 0)
+  pub rows-all : (n : ℕ) (grid rows : List ℕ) (j : ℕ) → q ≤ j → Rowed q columns n grid rows j → Rowed q columns n grid rows q
+  rows-all n grid rows j l h = record { values = record { at = λ i t a b. h .values .at i t (omega arith) b }; symbols = h .symbols }
 
-      long : length (ysOf q (getD columns t 0)) ≡ q
-      long = length-ys q (cs .curve) (getD columns t 0) (cs .small t l)
+  -- the y number s of each column
+  module _ (s : ℕ) (over : Columns q columns) (b : s < q) (ys : List ℕ) (is-ys : ys ≡ map (λ x. getD (ysOf q x) s 0) columns) where
+    pub ys-long : length ys ≡ length columns
+    ys-long = ap length is-ys ∙ length-map columns (λ x. getD (ysOf q x) s 0)
+
+    pub ys-symbols : Below (fieldOf q .size) ys
+    ys-symbols t = elim (decLt t (length columns)) [
+      | yes l ↦ rw (mapped (λ x. getD (ysOf q x) s 0) columns ys is-ys t l) (y-symbol q (over .curve) (getD columns t 0) s (over .small t l) b)
+      | no d ↦ rw (List·getD-eq-default ys 0 {n = t} (omega (arith, ys-long))) (zero-lt (fieldOf q))
+    ]
+
+    -- the values there, strewn over the word
+    pub valued-at : (rows out word₀ word : List ℕ) → length out ≡ length columns → Valued (fieldOf q) q rows ys out → Strewn s q out word₀ word → ValuedAt q columns rows s word₀ word
+    valued-at rows out word₀ word long v w =
+        record {
+          new = λ t l.
+              w .at t (omega arith) ∙ v .is t (omega (arith, ys-long))
+              ∙ ap₂ (λ (n y : ℕ). value (fieldOf q) q (λ j. getD rows (n * j + t) 0) y) ys-long (mapped (λ x. getD (ysOf q x) s 0) columns ys is-ys t l);
+          kept = λ t u k d. w .else (q * t + u) (λ i l e. d (sym (remainder q pos t u k) ∙ ap (λ (x : ℕ). x % q) e ∙ remainder q pos i s b));
+        }
+      where
+        pos : 0 < q
+        pos = omega arith
+
+  -- the second stage: the first s values of each column are written
+  pub record Written (rows word : List ℕ) (s : ℕ) : Type 0 where
+    pub at : (t u : ℕ) → t < length columns → u < s → getD word (q * t + u) 0 ≡ columnValue q columns rows t u
+
+  pub written-none : (rows word : List ℕ) → Written rows word 0
+  written-none rows word = record { at = λ t u a b. absurd (omega arith) }
+
+  pub written-turn : (rows word₀ word : List ℕ) (s : ℕ) → s < q → Written rows word₀ s → ValuedAt q columns rows s word₀ word → Written rows word (s + 1)
+  written-turn rows word₀ word s l h v = record { at = λ t u a b. go t u a b (ℕ-discrete u s) }
+    where
+      go : (t u : ℕ) → t < length columns → u < s + 1 → Dec (u ≡ s) → getD word (q * t + u) 0 ≡ columnValue q columns rows t u
+      go t u a b (yes e) = subst (λ (x : ℕ). getD word (q * t + x) 0 ≡ columnValue q columns rows t x) (sym e) (v .new t a)
+      go t u a b (no d) = v .kept t u (omega arith) d ∙ h .at t u a (omega arith)
+
+  pub written-all : (rows word : List ℕ) (s : ℕ) → q ≤ s → Written rows word s → Blocks q (columnValue q columns rows) word (length columns)
+  written-all rows word s l h = record { at = λ t u a b. h .at t u a (omega arith) }
 
 -- the rows of the grid that a message of order m can have
 pub rows-fit : (q m c : ℕ) → 0 < q → m < q * c → m / q + 1 ≤ c

@@ -13,6 +13,7 @@ use Rattle.field.proofs.Table.{agrees, entry}
 use Rattle.field.proofs.Curves.{each-curve, sizes}
 use Rattle.poly.specs.Ranges.{part}
 use Rattle.poly.proofs.Parts.{part-at, length-part}
+use Rattle.poly.proofs.Blocks.{block-fits}
 use Rattle.code.specs.Passing.{passing, upTo}
 use Rattle.code.specs.Points.{ysOf}
 use Rattle.code.specs.Columns.{Ys}
@@ -40,6 +41,13 @@ ys-table q curve list long test = record { long = long; column = column }
         part-at list (q * x) (q * x + q) t (omega arith)
         ∙ entry (yAt q) (q * q * q) list test (q * x + t) (omega (arith, within x l))
         ∙ ap₂ (λ (u v : ℕ). getD (ysOf q u) v 0) (quotient q pos x t k) (remainder q pos x t k))
+
+-- the y number s of column x in a table
+pub table-fits : (q : ℕ) → IsCurve q → (x s : ℕ) → x < q * q → s < q → q * x + s < 64
+table-fits q curve x s l b = omega (arith, sizes q curve .grid, sizes q curve .points, block-fits q x (q * q) l)
+
+pub table-at : (q : ℕ) (list : List ℕ) → Ys q list → (x s : ℕ) → x < q * q → s < q → getD list (q * x + s) 0 ≡ getD (ysOf q x) s 0
+table-at q list h x s l b = sym (part-at list (q * x) (q * x + q) s (omega arith)) ∙ ap (λ (u : List ℕ). getD u s 0) (h .column x l)
 
 -- the columns of each curve begin those of the larger
 pub columns-take : (q : ℕ) → IsCurve q → take (q * q) (upTo 16) ≡ upTo (q * q)

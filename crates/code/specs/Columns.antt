@@ -1,7 +1,7 @@
 -- What the code keeps of the columns: their y in one list, and lists of columns that a word may be over.
 use mathlib.Core.List.{List}
 use mathlib.Core.Path.{_≡_}
-use Prim.Native.Nat.{ℕ, _+_, _*_, _≤_, _<_}
+use Prim.Native.Nat.{ℕ, _+_, _*_, _<_}
 use lib.ListN.{length, getD}
 use Rattle.field.specs.Curve.{IsCurve}
 use Rattle.poly.specs.Lists.{Nodup}

@@ -39,3 +39,8 @@ pub record Staged (q : ℕ) (columns rows out : List ℕ) : Type 0 where
 pub record Rowed (q : ℕ) (columns : List ℕ) (n : ℕ) (grid rows : List ℕ) (j : ℕ) : Type 0 where
   pub values : Blocks (length columns) (rowValue q columns n grid) rows j
   pub symbols : Below (fieldOf q .size) rows
+
+-- what one y of each column, that with number s, leaves of the second stage: the values there, and what the columns had at their other y
+pub record ValuedAt (q : ℕ) (columns rows : List ℕ) (s : ℕ) (word₀ word : List ℕ) : Type 0 where
+  pub new : (t : ℕ) → t < length columns → getD word (q * t + s) 0 ≡ columnValue q columns rows t s
+  pub kept : (t u : ℕ) → u < q → (u ≡ s → ⊥) → getD word (q * t + u) 0 ≡ getD word₀ (q * t + u) 0

@@ -1,11 +1,11 @@
 // Encoding: a message to the word of its values.
 ghost use mathlib.Core.Path.{_≡_};
-ghost use Prim.Native.Nat.{_≤_};
+ghost use Prim.Native.Nat.{_≤_, _<_};
 ghost use lib.ListN.{length};
 ghost use Rattle.field.proofs.Fields.{fieldOf};
 ghost use Rattle.poly.specs.Ranges.{Below, Blocks};
 ghost use Rattle.code.specs.Word.{wordOf};
-ghost use Rattle.code.specs.Encodable.{Encodable, Staged, Rowed, columnValue};
+ghost use Rattle.code.specs.Encodable.{Encodable, Staged, Rowed, ValuedAt, columnValue};
 ghost use Rattle.code.specs.Answers.{answered};
 ghost use Rattle.code.specs.Encoded.{encoded};
 use crate::check;
@@ -14,10 +14,11 @@ use crate::point;
 use crate::term;
 use field::Outcome;
 use poly::polynomial;
+use poly::rows;
 
 // The first stage: each y^j's polynomial in x, with n coefficients, at every column; row j of rows is for y^j.
 fn evaluate_rows(q: u8, columns: &[u8], n: usize, grid: &[u8], rows: &mut [u8])
-    requires { ⌜ Staged q (now columns) (now grid) (now rows) × (n ≤ length (now columns)) × Below (fieldOf q .size) (now rows) ⌝ }
+    requires { ⌜ Staged q (now columns) (now grid) (now rows) × (1 ≤ n) × (n ≤ length (now columns)) × Below (fieldOf q .size) (now rows) ⌝ }
     ensures { λ _. ⌜ Rowed q (now (columns .entry)) n (now (grid .entry)) (now (rows .exit)) q ⌝ }
 {
     let width = q as usize;
@@ -32,23 +33,30 @@ fn evaluate_rows(q: u8, columns: &[u8], n: usize, grid: &[u8], rows: &mut [u8])
     }
 }
 
-// The second stage: each column's polynomial in y at the column's y, written into that column's part of the word.
+// The second stage at one y of each column, that with number s: each column's polynomial in y at its own.
+fn evaluate_ys(q: u8, columns: &[u8], rows: &[u8], s: usize, word: &mut [u8])
+    requires { ⌜ Staged q (now columns) (now rows) (now word) × (s < q) ⌝ }
+    ensures { λ _. ⌜ ValuedAt q (now (columns .entry)) (now (rows .entry)) s (now (word .entry)) (now (word .exit)) ⌝ }
+{
+    let width = q as usize;
+    let c = columns.len();
+    let mut ys = [0u8; 16];
+    point::ys_at(q, columns, s, &mut ys[..c]);
+    let mut out = [0u8; 16];
+    polynomial::evaluate_each(q, width, rows, &ys[..c], &mut out[..c]);
+    rows::spread(s, width, &out[..c], word);
+}
+
+// The second stage: each column's polynomial in y at the column's y, in that column's part of the word.
 fn evaluate_columns(q: u8, columns: &[u8], rows: &[u8], word: &mut [u8])
     requires { ⌜ Staged q (now columns) (now rows) (now word) ⌝ }
     ensures { λ _. ⌜ Blocks q (columnValue q (now (columns .entry)) (now (rows .entry))) (now (word .exit)) (length (now (columns .entry))) ⌝ }
 {
     let width = q as usize;
-    let c = columns.len();
-    let ys = point::ys(q);
-    let mut t = 0;
-    let mut at = 0;
-    while t < c {
-        let from = width * (columns[t] as usize);
-        let to = from + width;
-        let end = at + width;
-        polynomial::evaluate_at(q, rows, t, c, width, &ys[from..to], &mut word[at..end]);
-        at = end;
-        t += 1;
+    let mut s = 0;
+    while s < width {
+        evaluate_ys(q, columns, rows, s, word);
+        s += 1;
     }
 }
 

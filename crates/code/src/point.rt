@@ -1,8 +1,12 @@
 // The points of the curves, column by column.
+ghost use mathlib.Core.List.{map};
 ghost use mathlib.Core.Path.{_≡_};
+ghost use Prim.Native.Nat.{_<_};
+ghost use lib.ListN.{length, getD};
 ghost use Rattle.field.specs.Curve.{IsCurve};
 ghost use Rattle.code.specs.Passing.{upTo};
-ghost use Rattle.code.specs.Columns.{Ys};
+ghost use Rattle.code.specs.Points.{ysOf};
+ghost use Rattle.code.specs.Columns.{Columns, Ys};
 
 // The y of each column, ascending, column by column.
 const YS_2: [u8; 64] = *b"\
@@ -37,6 +41,20 @@ pub fn ys(q: u8) -> [u8; 64]
     ensures { λ r. ⌜ Ys q r ⌝ }
 {
     if q == 2 { ys_2() } else { ys_4() }
+}
+
+// The y number s of each of the columns.
+pub fn ys_at(q: u8, columns: &[u8], s: usize, out: &mut [u8])
+    requires { ⌜ Columns q (now columns) × (s < q) × (length (now out) ≡ length (now columns)) ⌝ }
+    ensures { λ _. ⌜ now (out .exit) ≡ map (λ x. getD (ysOf q x) s 0) (now (columns .entry)) ⌝ }
+{
+    let width = q as usize;
+    let ys = ys(q);
+    let mut t = 0;
+    while t < columns.len() {
+        out[t] = ys[width * (columns[t] as usize) + s];
+        t += 1;
+    }
 }
 
 // All columns of the larger curve, ascending; the smaller one's are the first of them.

@@ -7,6 +7,7 @@ pub mod Parts
 pub mod Entries
 pub mod Filter
 pub mod Values
+pub mod Horner
 pub mod Keep
 pub mod Span
 pub mod SpanDimension
@@ -16,6 +17,7 @@ pub mod OrderValues
 pub mod OrderZeros
 pub mod OrderInterpolation
 pub mod Blocks
+pub mod Strewing
 pub mod Bringing
 pub mod Dimension
 pub mod Homogeneous

@@ -1,17 +1,38 @@
 -- Polynomials over a field of characteristic 2: f i is the coefficient of x^i. Since - is +, x - a is plus x a.
 use mathlib.Core.Path.{_≡_}
 use mathlib.Core.List.{List, [], _∷_}
-use Prim.Native.Nat.{ℕ, zero, suc, _*_, _%_}
+use Prim.Native.Nat.{ℕ, zero, suc, _+_, _*_, _%_, _≤_, _<_}
 use lib.ListN.{length, getD}
 use Rattle.field.specs.Plus.{plus}
 use Rattle.field.specs.Field.{Field}
 use Rattle.field.specs.Power.{power}
 use Rattle.field.specs.Sum.{sum}
 use Rattle.poly.specs.Lists.{without}
+use Rattle.poly.specs.Ranges.{Below, writes}
 
 -- f 0 + f 1 * x + .. + f (n - 1) * x^(n - 1)
 unfoldable pub value : Field → ℕ → (ℕ → ℕ) → ℕ → ℕ
 value F n f x = sum n (λ i. F .times (f i) (power F x i))
+
+-- at least one of the first count coefficients, and all that are not 0
+pub record Terms (f : ℕ → ℕ) (count n : ℕ) : Type 0 where
+  pub some : 1 ≤ n
+  pub within : n ≤ count
+  pub zeros : (i : ℕ) → n ≤ i → i < count → f i ≡ 0
+
+-- Horner's step at every place: times x, plus a coefficient
+unfoldable pub stepped : Field → (ℕ → ℕ) → List ℕ → List ℕ → List ℕ
+stepped F f places out = writes out (length places) (λ t. plus (F .times (getD places t 0) (getD out t 0)) (f t))
+
+pub record Steppable (F : Field) (places out : List ℕ) : Type 0 where
+  pub places-below : Below (F .size) places
+  pub out-below : Below (F .size) out
+  pub long : length out ≡ length places
+
+-- the values of as many polynomials as places, each at its own; of c polynomials, the coefficient j of that with number t stands at c * j + t
+pub record Valued (F : Field) (count : ℕ) (rows places out : List ℕ) : Type 0 where
+  pub is : (t : ℕ) → t < length places → getD out t 0 ≡ value F count (λ j. getD rows (length places * j + t) 0) (getD places t 0)
+  pub symbols : Below (F .size) out
 
 -- the derivative: i + 1 times the coefficient of x^(i + 1). In characteristic 2 a term of even degree vanishes
 unfoldable pub derivative : (ℕ → ℕ) → ℕ → ℕ

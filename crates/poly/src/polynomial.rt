@@ -5,7 +5,7 @@ ghost use Prim.Native.Nat.{_+_, _-_, _*_, _≤_, _<_};
 ghost use lib.ListN.{length, getD};
 ghost use Rattle.field.proofs.Fields.{fieldOf};
 ghost use Rattle.poly.specs.Ranges.{Below, writes};
-ghost use Rattle.poly.specs.Polynomials.{value, derivative, linear, Vanishing};
+ghost use Rattle.poly.specs.Polynomials.{value, derivative, linear, Terms, Steppable, stepped, Valued, Vanishing};
 ghost use Rattle.poly.specs.Interpolation.{Multipliable, Multiplied};
 use crate::rows;
 
@@ -25,6 +25,45 @@ pub fn evaluate(q: u8, list: &[u8], start: usize, stride: usize, count: usize, x
     acc
 }
 
+// How many coefficients of that polynomial are left, at least one, without the zeros at the end.
+fn terms(list: &[u8], start: usize, stride: usize, count: usize) -> usize
+    requires { ⌜ (1 ≤ count) × (start < stride) × (stride * count ≤ length (now list)) ⌝ }
+    ensures { λ r. ⌜ Terms (λ i. getD (now (list .entry)) (stride * i + start) 0) count r ⌝ }
+{
+    let mut i = count;
+    while 1 < i {
+        if list[stride * (i - 1) + start] != 0 {
+            return i;
+        }
+        i -= 1;
+    }
+    i
+}
+
+// Horner's step at every place, with one coefficient for all of them.
+fn step(q: u8, c: u8, places: &[u8], out: &mut [u8])
+    requires { ⌜ Steppable (fieldOf q) (now places) (now out) × (c < fieldOf q .size) ⌝ }
+    ensures { λ _. ⌜ now (out .exit) ≡ stepped (fieldOf q) (λ _. c) (now (places .entry)) (now (out .entry)) ⌝ }
+{
+    let mut t = 0;
+    while t < places.len() {
+        out[t] = field::symbol::times(q, places[t], out[t]) ^ c;
+        t += 1;
+    }
+}
+
+// Horner's step at every place, with a coefficient for each.
+fn step_each(q: u8, row: &[u8], places: &[u8], out: &mut [u8])
+    requires { ⌜ Steppable (fieldOf q) (now places) (now out) × Below (fieldOf q .size) (now row) × (length (now row) ≡ length (now places)) ⌝ }
+    ensures { λ _. ⌜ now (out .exit) ≡ stepped (fieldOf q) (λ t. getD (now (row .entry)) t 0) (now (places .entry)) (now (out .entry)) ⌝ }
+{
+    let mut t = 0;
+    while t < places.len() {
+        out[t] = field::symbol::times(q, places[t], out[t]) ^ row[t];
+        t += 1;
+    }
+}
+
 // The same polynomial at each of the places.
 pub fn evaluate_at(
     q: u8,
@@ -36,13 +75,34 @@ pub fn evaluate_at(
     out: &mut [u8],
 )
     requires { ⌜ Below (fieldOf q .size) (now list) × Below (fieldOf q .size) (now places) ⌝ }
-    requires { ⌜ (start < stride) × (stride * count ≤ length (now list)) × (length (now out) ≡ length (now places)) ⌝ }
+    requires { ⌜ (1 ≤ count) × (start < stride) × (stride * count ≤ length (now list)) × (length (now out) ≡ length (now places)) ⌝ }
     ensures { λ _. ⌜ now (out .exit) ≡ map (value (fieldOf q) count (λ i. getD (now (list .entry)) (stride * i + start) 0)) (now (places .entry)) ⌝ }
 {
-    let mut t = 0;
-    while t < places.len() {
-        out[t] = evaluate(q, list, start, stride, count, places[t]);
-        t += 1;
+    let n = terms(list, start, stride, count);
+    let mut i = n - 1;
+    rows::fill(list[stride * i + start], out);
+    while 0 < i {
+        i -= 1;
+        step(q, list[stride * i + start], places, out);
+    }
+}
+
+// As many polynomials as places, each at its own: of c polynomials, the coefficient j of that with number t stands at c * j + t.
+pub fn evaluate_each(q: u8, count: usize, rows: &[u8], places: &[u8], out: &mut [u8])
+    requires { ⌜ Below (fieldOf q .size) (now rows) × Below (fieldOf q .size) (now places) ⌝ }
+    requires { ⌜ (1 ≤ count) × (length (now places) * count ≤ length (now rows)) × (length (now out) ≡ length (now places)) ⌝ }
+    ensures { λ _. ⌜ Valued (fieldOf q) count (now (rows .entry)) (now (places .entry)) (now (out .exit)) ⌝ }
+{
+    let c = places.len();
+    let mut j = count - 1;
+    let mut at = c * j;
+    let top = at + c;
+    rows::copy(c, &rows[at..top], out);
+    while 0 < j {
+        let end = at;
+        at -= c;
+        j -= 1;
+        step_each(q, &rows[at..end], places, out);
     }
 }
 

@@ -1,22 +1,21 @@
 -- `code::encoding::evaluate_rows` meets its contract: each turn writes the row of one power of y.
 -- Assumes nothing.
-use mathlib.Core.Path.{_≡_, refl, sym, ap, _∙_, subst}
-use Prim.Native.Nat.{ℕ, _+_, _-_, _*_, _≤_, _<_}
-use native.Mathlib.Nat.{mul-zero, mul-comm, mul-le-mul-left}
+use mathlib.Core.Path.{_≡_, refl, _∙_}
+use Prim.Native.Nat.{_+_, _-_, _*_, _≤_}
+use native.Mathlib.Nat.{mul-comm, mul-le-mul-left}
 use native.Mathlib.Omega.{arith}
-use borrow.Author.Needs.{needs}
 use borrow.Rule.Slice.PartMut.{same-len-mid, mid-len}
 use denote.Ref.{now}
-use lib.ListN.{length, getD}
+use lib.ListN.{length}
 use Rattle.poly.proofs.Blocks.{block-start, block-fits}
 use Rattle.code.specs.Encodable.{Rowed}
-use Rattle.code.proofs.Stages.{columns-below, rows-none, rows-turn}
+use Rattle.code.proofs.Stages.{columns-below, rows-none, rows-turn, rows-all}
 use Rattle.code.proofs.encoding.evaluate_rows.Statement.{statement}
 use Rattle.code.proofs.encoding.evaluate_rows.Tie as tie
 
 abbrev Inv-loop : tie.InvT-loop
 Inv-loop q columns n grid rows₀ width c j₀ at₀ rows j at =
-    (j ≤ q) × (at ≡ length columns * j) × (length rows ≡ length rows₀) × Rowed q columns n grid rows j
+    (at ≡ length columns * j) × (length rows ≡ length rows₀) × Rowed q columns n grid rows j
 
 abbrev μ-loop : tie.MeasureT-loop
 μ-loop q columns n grid rows₀ width c j₀ at₀ rows j at = q - j
@@ -26,12 +25,12 @@ fits : (c : tie.In-loop Inv-loop μ-loop) → let x = c .before .before .before 
 fits c =
     let x = c .before .before .before .before .before .args in
     let l = c .before .loop in
-    omega (arith, l .inv .1, l .inv .2, c .before .before .before .before .before .pre .0 .room, mul-comm (x .q) (length (now (x .columns))), block-fits (length (now (x .columns))) (l .j) (x .q) (c .loop-test .taken))
+    omega (arith, l .inv .0, l .inv .1, c .before .before .before .before .before .pre .0 .room, mul-comm (x .q) (length (now (x .columns))), block-fits (length (now (x .columns))) (l .j) (x .q) (c .loop-test .taken))
 
 loop-holds : tie.Need-loop-holds Inv-loop μ-loop
 loop-holds c =
     let s = c .before .before .before in
-    (omega arith, sym (mul-zero (length (now (s .args .columns)))), refl, rows-none (s .args .q) (now (s .args .columns)) (s .args .n) (now (s .args .grid)) (now (s .args .rows)) (s .pre .2))
+    (omega arith, refl, rows-none (s .args .q) (now (s .args .columns)) (s .args .n) (now (s .args .grid)) (now (s .args .rows)) (s .pre .3))
 
 add-end : tie.Need-add-end Inv-loop μ-loop
 add-end c = omega (arith, fits c)
@@ -51,8 +50,9 @@ evaluate-at-requires c κs =
     let l = c .before .before .loop in (
       (s .pre .0 .symbols, columns-below (s .args .q) (now (s .args .columns)) (s .pre .0 .over)),
       (
+        s .pre .1,
         c .before .loop-test .taken,
-        omega (arith, s .pre .0 .long, mul-le-mul-left (s .args .q) (s .pre .1)),
+        omega (arith, s .pre .0 .long, mul-le-mul-left (s .args .q) (s .pre .2)),
         mid-len (l .at) (l .at + length (now (s .args .columns))) (l .rows) (fits (c .before)) ∙ omega arith,
       ),
     )
@@ -69,21 +69,19 @@ loop-again c =
     let l = c .before .before .before .before .before .loop in
     let e = c .before .before .evaluate-at in
     let last = e .last .1 .1 .1 .1 .1 .1 .0 in (
-      omega arith,
-      block-start (length (now (s .args .columns))) (l .j) (l .at) (l .at + length (now (s .args .columns))) (l .inv .1) refl,
-      same-len-mid (l .at) (l .at + length (now (s .args .columns)) - l .at) (l .rows) last (e .kept .1 .1 .1 .1 .1 .1 .0) ∙ l .inv .2,
-      rows-turn (s .args .q) (now (s .args .columns)) (s .args .n) (now (s .args .grid)) (l .rows) last (l .j) (l .at) (l .inv .3) (l .inv .1) (fits (c .before .before .before .before)) (e .ensures),
+      block-start (length (now (s .args .columns))) (l .j) (l .at) (l .at + length (now (s .args .columns))) (l .inv .0) refl,
+      same-len-mid (l .at) (l .at + length (now (s .args .columns)) - l .at) (l .rows) last (e .kept .1 .1 .1 .1 .1 .1 .0) ∙ l .inv .1,
+      rows-turn (s .args .q) (now (s .args .columns)) (s .args .n) (now (s .args .grid)) (l .rows) last (l .j) (l .at) (l .inv .2) (l .inv .0) (fits (c .before .before .before .before)) (e .ensures),
     )
 
 same-length : tie.Need-same-length Inv-loop μ-loop
-same-length c = c .before .loop .inv .2
+same-length c = c .before .loop .inv .1
 
 returns : tie.Need-returns Inv-loop μ-loop
 returns c =
     let x = c .before .before .before .before .before .args in
     let l = c .before .loop in
-    let e : l .j ≡ x .q = omega arith in
-    subst (Rowed (x .q) (now (x .columns)) (x .n) (now (x .grid)) (l .rows)) e (l .inv .3)
+    rows-all (x .q) (now (x .columns)) (x .n) (now (x .grid)) (l .rows) (l .j) (c .loop-test .left) (l .inv .2)
 
 pub evaluate-rows-spec : {M : Type 1} → statement M
 evaluate-rows-spec =

@@ -16,6 +16,7 @@ pub mod OrderValues
 pub mod OrderZeros
 pub mod OrderInterpolation
 pub mod Blocks
+pub mod Strewing
 pub mod Bringing
 pub mod Dimension
 pub mod Homogeneous

@@ -8,8 +8,8 @@ use native.Mathlib.Nat.{le-antisymm, eq-or-lt-of-le, not-suc-le-zero, le-of-suc-
 use native.Mathlib.Numerals.{add-one}
 use native.Mathlib.Decide.{decLt}
 use native.Mathlib.Omega.{arith}
-use lib.ListN.{length, getD, take, set, length-set}
-use lib.Seq.{getD-set-same, getD-set-other, take-suc, take-suc-set, take-all}
+use lib.ListN.{length, getD, take, set, length-set, replicate, length-replicate, getD-replicate}
+use lib.Seq.{ext-getD, getD-set-same, getD-set-other, take-suc, take-suc-set, take-all}
 use Rattle.poly.specs.Ranges.{Below, writes}
 
 module _ (l : List ℕ) (f : ℕ → ℕ) where
@@ -53,6 +53,14 @@ module _ (l : List ℕ) (f : ℕ → ℕ) where
       go : Dec (j < n) → getD (writes l n f) j 0 < b
       go (yes i) = rw (writes-in n j i k) (g j i)
       go (no p) = rw (writes-out n j (omega arith)) (h j)
+
+-- the same number at every place
+pub writes-same : (l : List ℕ) (c : ℕ) → writes l (length l) (λ _. c) ≡ replicate (length l) c
+writes-same l c =
+    ext-getD 0 (writes l (length l) (λ _. c)) (replicate (length l) c) (length-writes l (λ _. c) (length l) ∙ sym (length-replicate (length l) c))
+    (λ t b.
+    let k : t < length l = omega (arith, length-writes l (λ _. c) (length l)) in
+    writes-in l (λ _. c) (length l) t k (omega arith) ∙ sym (getD-replicate (length l) t c 0 k))
 
 -- a list that is filled from the front with the values of f at the entries of another
 module _ (f : ℕ → ℕ) (places out : List ℕ) (t : ℕ) (same : length out ≡ length places) (done : take t out ≡ map f (take t places)) where

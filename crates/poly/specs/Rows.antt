@@ -1,7 +1,8 @@
 -- Row operations on lists.
 use mathlib.Core.List.{List}
-use Prim.Native.Nat.{ℕ, _+_, _*_}
-use lib.ListN.{set}
+use mathlib.Core.Path.{_≡_}
+use Prim.Native.Nat.{ℕ, _+_, _*_, _<_}
+use lib.ListN.{length, getD, set}
 use Rattle.field.specs.Plus.{plus}
 use Rattle.field.specs.Field.{Field}
 use Rattle.poly.specs.Ranges.{writes, part, put}
@@ -30,3 +31,8 @@ eliminated F c n k src dst = set (added F c n src dst) k (plus (entry (added F c
 -- work with the first n elements of row in row i, which stands from i * stride on
 unfoldable pub placed : ℕ → ℕ → ℕ → List ℕ → List ℕ → List ℕ
 placed stride n i row work = put work (i * stride) (i * stride + stride) (stored n row (part work (i * stride) (i * stride + stride)))
+
+-- dst is dst₀ with the elements of src at start, stride + start, 2 * stride + start, ..
+pub record Strewn (start stride : ℕ) (src dst₀ dst : List ℕ) : Type 0 where
+  pub at : (t : ℕ) → t < length src → getD dst (stride * t + start) 0 ≡ getD src t 0
+  pub else : (i : ℕ) → ((t : ℕ) → t < length src → i ≡ stride * t + start → ⊥) → getD dst i 0 ≡ getD dst₀ i 0

@@ -1,35 +1,27 @@
 -- The columns of the curve: each x has q values y, all symbols; and words column by column.
 -- Assumes nothing.
 use mathlib.Core.List.{List, [], _∷_, _++_, map, flatMap, append-nil, append-assoc, map-append, map-map}
-use mathlib.Core.Path.{_≡_, refl, sym, ap, ap₂, _∙_}
-use Prim.Native.Nat.{ℕ, zero, suc, _+_, _-_, _*_, _≤_, _<_, _^_}
+use mathlib.Core.Path.{_≡_, refl, sym, ap, _∙_}
+use Prim.Native.Nat.{ℕ, zero, suc, _+_, _*_, _≤_, _<_, _^_}
 use native.Mathlib.Nat.{mul-zero, mul-suc, mul-le-mul-left}
-use native.Mathlib.Numerals.{add-one}
 use native.Mathlib.Decide.{decLt}
 use native.Mathlib.Omega.{arith}
-use borrow.Rule.Slice.PartMut.{putMid, postOf}
 use lib.Dec.{T}
-use lib.ListN.{length, getD, take, drop, replicate, getD-replicate, length-append, length-map, List·getD-append}
-use lib.Seq.{length-take-le, take-suc, take-all, take-at, getD-append-add}
+use lib.ListN.{length, getD, take, replicate, getD-replicate, length-append, length-map, List·getD-append}
+use lib.Seq.{take-suc, take-all, getD-append-add}
 use Rattle.field.specs.Curve.{IsCurve, bitsOf}
 use Rattle.field.specs.Plus.{plus}
 use Rattle.field.specs.Power.{power}
 use Rattle.field.specs.Product.{times}
-use Rattle.field.proofs.Fields.{fieldOf}
 use Rattle.field.proofs.Table.{agrees, entry}
 use Rattle.field.proofs.Curves.{each-curve, sizes}
-use Rattle.field.proofs.Sums.{sum-lt}
-use Rattle.poly.specs.Ranges.{Below}
 use Rattle.poly.specs.Polynomials.{value}
-use Rattle.poly.proofs.Values.{value-cong}
 use Rattle.poly.proofs.Lists.{getD-map}
-use Rattle.code.specs.Passing.{passing, upTo}
+use Rattle.code.specs.Passing.{passing}
 use Rattle.code.specs.Points.{onCurve, ysOf, pointsOn}
-use Rattle.code.specs.Terms.{weights, size}
-use Rattle.code.specs.Word.{monomial, valueAt, wordOf}
-use Rattle.code.specs.Grid.{scatter}
+use Rattle.code.specs.Terms.{size}
+use Rattle.code.specs.Word.{valueAt, wordOf}
 use Rattle.code.proofs.Passing.{at-place}
-use Rattle.code.proofs.GridLaw.{two-stages}
 
 -- ---- the y of a column
 
@@ -126,11 +118,3 @@ module _ (q m : ℕ) (curve : IsCurve q) (message columns : List ℕ) (small : (
   word-at t s a b =
       ap (λ (c : List ℕ). getD (wordOf q c m message) (q * t + s) 0) (sym (take-all (length columns) columns (omega arith)))
       ∙ upto-at (length columns) (omega arith) t s a b
-
--- ---- a word that is written column by column
-
--- a part that was lent from a on and came back, of a list that is right up to a: it is right up to the part's end
-pub part-turn : (a k n : ℕ) (xs ys : List ℕ) → a ≤ length xs → a + length ys ≡ n → take n (putMid a k xs ys) ≡ take a xs ++ ys
-part-turn a k n xs ys l e =
-    ap (take n) (sym (append-assoc (take a xs) ys (postOf a k xs)))
-    ∙ take-at (take a xs ++ ys) (postOf a k xs) n (length-append (take a xs) ys ∙ omega (arith, e, length-take-le a xs l))

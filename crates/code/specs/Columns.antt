@@ -1,7 +1,7 @@
 -- What the code keeps of the columns: their y in one list, and lists of columns that a word may be over.
 use mathlib.Core.List.{List}
 use mathlib.Core.Path.{_≡_}
-use Prim.Native.Nat.{ℕ, _+_, _*_, _≤_, _<_}
+use Prim.Native.Nat.{ℕ, _+_, _*_, _<_}
 use lib.ListN.{length, getD}
 use Rattle.field.specs.Curve.{IsCurve}
 use Rattle.poly.specs.Lists.{Nodup}
@@ -18,3 +18,7 @@ pub record Columns (q : ℕ) (columns : List ℕ) : Type 0 where
   pub curve : IsCurve q
   pub small : (t : ℕ) → t < length columns → getD columns t 0 < q * q
   pub distinct : Nodup columns
+
+-- the y number s of column t
+abbrev pub columnY : ℕ → List ℕ → ℕ → ℕ → ℕ
+columnY q columns t s = getD (ysOf q (getD columns t 0)) s 0

@@ -2,7 +2,7 @@
 -- Assumes nothing.
 use mathlib.Core.List.{List, [], _∷_, _++_, map, flatMap, append-nil, append-assoc, map-append, map-map}
 use mathlib.Core.Path.{_≡_, refl, sym, ap, _∙_}
-use Prim.Native.Nat.{ℕ, zero, suc, _+_, _-_, _*_, _≤_, _<_, _^_}
+use Prim.Native.Nat.{ℕ, zero, suc, _+_, _*_, _≤_, _<_, _^_}
 use native.Mathlib.Nat.{mul-zero, mul-suc, mul-le-mul-left}
 use native.Mathlib.Decide.{decLt}
 use native.Mathlib.Omega.{arith}
@@ -15,9 +15,11 @@ use Rattle.field.specs.Power.{power}
 use Rattle.field.specs.Product.{times}
 use Rattle.field.proofs.Table.{agrees, entry}
 use Rattle.field.proofs.Curves.{each-curve, sizes}
+use Rattle.poly.specs.Polynomials.{value}
 use Rattle.poly.proofs.Lists.{getD-map}
 use Rattle.code.specs.Passing.{passing}
 use Rattle.code.specs.Points.{onCurve, ysOf, pointsOn}
+use Rattle.code.specs.Terms.{size}
 use Rattle.code.specs.Word.{valueAt, wordOf}
 use Rattle.code.proofs.Passing.{at-place}
 

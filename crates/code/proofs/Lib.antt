@@ -23,8 +23,7 @@ pub mod Exponents
 pub mod Readings
 pub mod Recoveries
 pub mod ReadingSystems
-pub mod ColumnInterpolation
-pub mod ColumnTurns
+pub mod InverseStages
 pub mod WordGrids
 pub mod Inverse
 pub mod PaperValues

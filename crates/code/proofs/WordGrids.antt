@@ -15,7 +15,7 @@ use Rattle.poly.specs.Messages.{Vector}
 use Rattle.poly.specs.Sets.{ListOf}
 use Rattle.poly.specs.Ranges.{Below}
 use Rattle.poly.specs.Polynomials.{value}
-use Rattle.poly.specs.Interpolation.{strand, Interpolated}
+use Rattle.poly.specs.Interpolation.{strand}
 use Rattle.poly.proofs.Lists.{getD-map, each-mem}
 use Rattle.poly.proofs.Messages.{below-vector, vector-below}
 use Rattle.poly.proofs.Values.{value-cong, value-lt}
@@ -31,7 +31,7 @@ use Rattle.code.specs.Fitting.{fitting}
 use Rattle.code.specs.Answers.{answered}
 use Rattle.code.specs.Unencoded.{theMessage}
 use Rattle.code.specs.Recovered.{read, reading, told}
-use Rattle.code.specs.Readable.{WordOver, ColumnsInterpolated, readOver}
+use Rattle.code.specs.Readable.{WordOver, InterpolatedInY, InterpolatedInX, readOver}
 use Rattle.code.proofs.GridEntries.{length-scatter, length-gather, gather-scatter}
 use Rattle.code.proofs.GridLaw.{two-stages}
 use Rattle.code.proofs.Order.{within-scatter, within-message}
@@ -61,13 +61,12 @@ vector-gather q m b grid h =
 
 module _ (q : ℕ) (columns word : List ℕ) (w : WordOver q columns word) where
   -- interpolation in y, then in x, leaves it
-  pub grid-of : (rows grid : List ℕ) → ColumnsInterpolated q columns word rows (length columns) → length grid ≡ length word
-      → Interpolated (fieldOf q) q columns rows grid → GridOf q columns word grid
+  pub grid-of : (rows grid : List ℕ) → InterpolatedInY q columns word rows → length grid ≡ length word → InterpolatedInX q columns rows grid → GridOf q columns word grid
   grid-of rows grid first long second =
       record {
         long = long ∙ w .long;
-        symbols = second .below;
-        is = λ t s a b. value-cong (fieldOf q) q (at-column (fieldOf q) q columns grid t) (λ j. strand q rows j t) (getD (ysOf q (getD columns t 0)) s 0)
+        symbols = second .symbols;
+        is = λ t s a b. value-cong (fieldOf q) q (at-column (fieldOf q) q columns grid t) (strand (length columns) rows t) (getD (ysOf q (getD columns t 0)) s 0)
             (λ j k. second .is j t k a) ∙ first .is t s a b;
       }
 

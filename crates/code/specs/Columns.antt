@@ -18,3 +18,7 @@ pub record Columns (q : ℕ) (columns : List ℕ) : Type 0 where
   pub curve : IsCurve q
   pub small : (t : ℕ) → t < length columns → getD columns t 0 < q * q
   pub distinct : Nodup columns
+
+-- the y number s of column t
+abbrev pub columnY : ℕ → List ℕ → ℕ → ℕ → ℕ
+columnY q columns t s = getD (ysOf q (getD columns t 0)) s 0

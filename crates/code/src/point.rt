@@ -1,12 +1,14 @@
 // The points of the curves, column by column.
 ghost use mathlib.Core.List.{map};
 ghost use mathlib.Core.Path.{_≡_};
-ghost use Prim.Native.Nat.{_<_};
+ghost use Prim.Native.Nat.{_*_, _≤_, _<_};
 ghost use lib.ListN.{length, getD};
 ghost use Rattle.field.specs.Curve.{IsCurve};
+ghost use Rattle.poly.specs.Ranges.{Blocks};
 ghost use Rattle.code.specs.Passing.{upTo};
 ghost use Rattle.code.specs.Points.{ysOf};
-ghost use Rattle.code.specs.Columns.{Columns, Ys};
+ghost use Rattle.code.specs.Columns.{Ys, Columns, columnY};
+use poly::rows;
 
 // The y of each column, ascending, column by column.
 const YS_2: [u8; 64] = *b"\
@@ -62,4 +64,40 @@ pub fn columns() -> [u8; 16]
     ensures { λ r. ⌜ r ≡ upTo 16 ⌝ }
 {
     COLUMNS
+}
+
+// The columns, once for each power of y.
+pub fn xs_list(q: u8, columns: &[u8], out: &mut [u8])
+    requires { ⌜ q * length (now columns) ≤ length (now out) ⌝ }
+    ensures { λ _. ⌜ Blocks (length (now (columns .entry))) (λ j t. getD (now (columns .entry)) t 0) (now (out .exit)) q ⌝ }
+{
+    let width = q as usize;
+    let c = columns.len();
+    let mut j = 0;
+    let mut at = 0;
+    while j < width {
+        let end = at + c;
+        rows::copy(c, columns, &mut out[at..end]);
+        at = end;
+        j += 1;
+    }
+}
+
+// The y of the columns, column by column.
+pub fn ys_list(q: u8, columns: &[u8], out: &mut [u8])
+    requires { ⌜ Columns q (now columns) × (q * length (now columns) ≤ length (now out)) ⌝ }
+    ensures { λ _. ⌜ Blocks q (columnY q (now (columns .entry))) (now (out .exit)) (length (now (columns .entry))) ⌝ }
+{
+    let width = q as usize;
+    let all = ys(q);
+    let mut t = 0;
+    let mut at = 0;
+    while t < columns.len() {
+        let from = width * (columns[t] as usize);
+        let to = from + width;
+        let end = at + width;
+        rows::copy(width, &all[from..to], &mut out[at..end]);
+        at = end;
+        t += 1;
+    }
 }

@@ -44,3 +44,5 @@ pub mod Divisions
 pub mod Interpolants
 pub mod Elimination
 pub mod Sets
+pub mod ClosedForm
+pub mod PowerSums

@@ -7,3 +7,4 @@ pub mod Rows
 pub mod Systems
 pub mod Interpolation
 pub mod Sets
+pub mod PowerSums

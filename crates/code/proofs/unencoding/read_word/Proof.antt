@@ -1,4 +1,4 @@
--- `code::unencoding::read_word` meets its contract: the grid that it lends is zeros.
+-- `code::unencoding::read_word` meets its contract: the grid that it lends has the word's length.
 -- Assumes nothing.
 use mathlib.Core.Path.{sym}
 use Prim.Native.Nat.{_≤_}
@@ -7,7 +7,7 @@ use denote.Ref.{now}
 use lib.ListN.{length}
 use lib.Seq.{length-take-le}
 use borrow.Author.Needs.{needs}
-use Rattle.poly.proofs.Entries.{zeros, take-zeros}
+use Rattle.poly.proofs.Entries.{zeros}
 use Rattle.code.proofs.Stages.{columns-short}
 use Rattle.code.proofs.unencoding.read_word.Statement.{statement}
 use Rattle.code.proofs.unencoding.read_word.Tie as tie
@@ -24,7 +24,7 @@ slice-aggregate-read-grid c = sym (length-take-le (length (now (c .before .befor
 
 read-grid-requires : tie.Need-read-grid-requires
 read-grid-requires c κs =
-    let n = length (now (c .before .before .before .before .before .args .word)) in (c .before .before .before .before .before .pre, record { long = length-take-le n (zeros 64) (short (c .before .before .before .before .before)); zeros = take-zeros 64 n })
+    let n = length (now (c .before .before .before .before .before .args .word)) in (c .before .before .before .before .before .pre, length-take-le n (zeros 64) (short (c .before .before .before .before .before)))
 
 same-length : tie.Need-same-length
 same-length c = search needs

@@ -1,5 +1,5 @@
--- Interpolation in one column, in closed form. Its y are n roots of y^n + y + a, for one a, and n is even. So the sum of b^(n - 1 - j)·y^j over
--- j < n, plus 1, is at these roots y an indicator: 1 at y = b, and 0 where y is another root than b.
+-- Interpolation in closed form, at n roots of y^n + y + a, for one a and an even n. So the sum of b^(n - 1 - j)·y^j over j < n, plus 1, is at
+-- these roots y an indicator: 1 at y = b, and 0 where y is another root than b.
 -- Assumes nothing.
 use mathlib.Core.Path.{_≡_, sym, ap, ap₂, _∙_}
 use Prim.Native.Nat.{ℕ, zero, suc, _+_, _-_, _<_}

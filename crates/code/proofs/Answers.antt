@@ -32,28 +32,14 @@ not-refused checked slice answer e = ap (λ (x : Outcome). unlessRefused x slice
 done-or-not : (o : Outcome) → o ≡ Done → eqb (number o) 0 ≡ false → ⊥
 done-or-not o e n = let f : _≡_ {A = Bool} true false = sym (ap (λ (x : Outcome). eqb (number x) 0) e) ∙ n in let z : _≡_ {A = ℕ} 0 1 = cc in omega arith
 
-module _ (q m : ℕ) (o : Outcome) (e : o ≡ orderChecks q m Done) (slice : List ℕ) (answer : Answer) where
-  -- checks 1 and 2 refuse
-  pub refused-order : (rest : Outcome) → Refused o → unlessRefused (orderChecks q m rest) slice answer ≡ answered o slice
-  refused-order rest r =
-      ⊎-elim (λ d. absurd (done-or-not o (d .0) (not-done o r))) (λ d. refused (orderChecks q m rest) o slice answer (d .1) (d .0))
-      (order-follows q m o rest (sym e))
+-- a refusal by the checks 1 and 2 is the call's
+pub order-refused : (q m : ℕ) (o : Outcome) → o ≡ orderChecks q m Done → Refused o → (rest : Outcome) → o ≡ orderChecks q m rest
+order-refused q m o e r rest =
+    ⊎-elim (λ d. absurd (done-or-not o (d .0) (not-done o r))) (λ d. sym (d .1)) (order-follows q m o rest (sym e))
 
-  module _ (d : o ≡ Done) (gaps : Bool) (Q takes : ℕ) (input : List ℕ) (writes room : ℕ) (p : Outcome) (f : p ≡ sliceChecks gaps Q takes input writes room Done) where
-    past-order : (rest : Outcome) → orderChecks q m rest ≡ rest
-    past-order rest =
-        ⊎-elim (λ h. h .1) (λ h. absurd (done-or-not o d (h .0))) (order-follows q m o rest (sym e))
-
-    abbrev checked : Outcome
-    checked = orderChecks q m (sliceChecks gaps Q takes input writes room Done)
-
-    -- checks 3, 4 and 5 refuse
-    pub refused-slices : Refused p → unlessRefused (orderChecks q m (sliceChecks gaps Q takes input writes room Done)) slice answer ≡ answered p slice
-    refused-slices r = refused checked p slice answer (past-order (sliceChecks gaps Q takes input writes room Done) ∙ sym f) (not-done p r)
-
-    -- none does
-    pub accepted : p ≡ Done → unlessRefused (orderChecks q m (sliceChecks gaps Q takes input writes room Done)) slice answer ≡ answer
-    accepted g = not-refused checked slice answer (past-order (sliceChecks gaps Q takes input writes room Done) ∙ sym f ∙ g)
+-- what the checks refuse is the entry's answer
+pub entry-refused : (checked o : Outcome) (slice : List ℕ) (answer : Answer) → o ≡ checked → Refused o → unlessRefused checked slice answer ≡ answered o slice
+entry-refused checked o slice answer e r = refused checked o slice answer (sym e) (not-done o r)
 
 -- an answer that is known by its outcome, packed
 pub to-packed : (answer : Answer) (o : Outcome) (slice : List ℕ) (returned : ℕ) → answer ≡ answered o slice → returned ≡ packed o

@@ -3,7 +3,7 @@
 use mathlib.Core.Bool.{Bool, true, false, not, cond, _&&_, and-false}
 use mathlib.Core.List.{List, [], _∷_}
 use mathlib.Core.Logic.{_⊎_, inl, inr}
-use mathlib.Core.Path.{_≡_, refl, sym, ap, _∙_}
+use mathlib.Core.Path.{_≡_, refl, sym, ap, ap₂, _∙_}
 use Prim.Native.Nat.{ℕ, zero, suc, _+_, _*_, _≤_, _<_}
 use native.Mathlib.Numerals.{add-one}
 use native.Mathlib.Decide.{ℕ-discrete}
@@ -19,7 +19,8 @@ use Rattle.field.specs.declared.outcome.Outcome.the-variants.{Done, BadCurve, B
 use Rattle.field.proofs.Curves.{curve-true, curve-of-true}
 use Rattle.field.proofs.Outcomes.{passed}
 use Rattle.poly.proofs.Bools.{true-or-false}
-use Rattle.code.specs.Checks.{orderChecks, badValue, firstBad, valueCheck, sliceChecks}
+use Rattle.code.specs.Terms.{size}
+use Rattle.code.specs.Checks.{orderChecks, badValue, firstBad, valueCheck, sliceChecks, callChecks}
 
 -- ---- one value
 
@@ -143,6 +144,13 @@ slices-done gaps Q takes input writes room e =
       fits = eqb-true room writes (not-false (eqb room writes) (c .0));
     }
 
+-- and what all five of a call say
+pub call-done : (gaps decodes : Bool) (q m : ℕ) (input : List ℕ) (room : ℕ) → callChecks gaps decodes q m input room ≡ Done
+    → IsCurve q × (m < q * q * q) × Accepted gaps (q * q) (cond decodes (q * q * q) (size q m)) input (cond decodes (size q m) (q * q * q)) room
+call-done gaps decodes q m input room e =
+    let w = order-rest q m _ e in
+    (w .0, w .1, slices-done gaps (q * q) (cond decodes (q * q * q) (size q m)) input (cond decodes (size q m) (q * q * q)) room (w .2))
+
 -- what follows a row of checks that comes out Done is what the call answers; a refusal of the row is the call's
 abbrev Follows : (Outcome → Outcome) → Type 0
 Follows row = (o rest : Outcome) → row Done ≡ o → ((o ≡ Done) × (row rest ≡ rest)) ⊎ ((eqb (number o) 0 ≡ false) × (row rest ≡ o))
@@ -193,3 +201,10 @@ pub slices-accepted : (gaps : Bool) (Q takes : ℕ) (input : List ℕ) (writes r
 slices-accepted gaps Q takes input writes room rest h =
     slices-passed gaps Q takes input writes room rest (h .long) (firstBad (badValue gaps Q) input) refl
     (omega (arith, h .long, none-found (badValue gaps Q) input (h .good))) (h .fits)
+
+-- past 1 and 2 the call is decided by 3, 4 and 5
+pub call-past : (gaps decodes : Bool) (q m : ℕ) (input : List ℕ) (room : ℕ) (o : Outcome) (takes writes : ℕ) → IsCurve q × (m < q * q * q)
+    → takes ≡ cond decodes (q * q * q) (size q m) → writes ≡ cond decodes (size q m) (q * q * q)
+    → o ≡ sliceChecks gaps (q * q) takes input writes room Done → o ≡ callChecks gaps decodes q m input room
+call-past gaps decodes q m input room o takes writes p t w e =
+    e ∙ ap₂ (λ (a b : ℕ). sliceChecks gaps (q * q) a input b room Done) t w ∙ sym (order-passed q m _ (p .0) (p .1))

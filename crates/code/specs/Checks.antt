@@ -7,7 +7,8 @@ use lib.ListN.{length}
 use Rattle.field.specs.Curve.{isCurve}
 use Rattle.field.specs.Outcomes.{refuse}
 use Rattle.field.specs.declared.outcome.Outcome.{Outcome}
-use Rattle.field.specs.declared.outcome.Outcome.the-variants.{BadCurve, BadOrder, BadLength, BadValue, BadRoom}
+use Rattle.field.specs.declared.outcome.Outcome.the-variants.{Done, BadCurve, BadOrder, BadLength, BadValue, BadRoom}
+use Rattle.code.specs.Terms.{size}
 
 -- "1. The curve number is neither 2 nor 4. 2. The order is n or more."
 unfoldable pub orderChecks : ℕ → ℕ → Outcome → Outcome
@@ -38,3 +39,9 @@ sliceChecks gaps Q takes input writes room rest =
     (valueCheck gaps Q input
     (refuse (not (eqb room writes)) BadRoom
     rest))
+
+-- 1 to 5, of a call that decodes, which takes a word and writes a message, or encodes, which takes a message and writes a word
+abbrev pub callChecks : Bool → Bool → ℕ → ℕ → List ℕ → ℕ → Outcome
+callChecks gaps decodes q m input room =
+    orderChecks q m
+    (sliceChecks gaps (q * q) (cond decodes (q * q * q) (size q m)) input (cond decodes (size q m) (q * q * q)) room Done)

@@ -1,19 +1,18 @@
 -- Encoding, for every argument.
 use mathlib.Core.Bool.{false}
 use mathlib.Core.List.{List}
-use Prim.Native.Nat.{ℕ, _*_}
+use Prim.Native.Nat.{ℕ}
 use lib.ListN.{length}
 use Rattle.field.specs.declared.outcome.Outcome.{Outcome}
 use Rattle.field.specs.declared.outcome.Outcome.the-variants.{Done}
 use Rattle.code.specs.Points.{columnsOf}
-use Rattle.code.specs.Terms.{size}
 use Rattle.code.specs.Word.{wordOf}
-use Rattle.code.specs.Checks.{orderChecks, sliceChecks}
+use Rattle.code.specs.Checks.{callChecks}
 use Rattle.code.specs.Answers.{Answer, answered, unlessRefused}
 
 -- 1, 2, 3, 4, 5
 abbrev pub encodeChecks : ℕ → ℕ → List ℕ → List ℕ → Outcome
-encodeChecks q m message word = orderChecks q m (sliceChecks false (q * q) (size q m) message (q * q * q) (length word) Done)
+encodeChecks q m message word = callChecks false false q m message (length word)
 
 unfoldable pub encoded : ℕ → ℕ → List ℕ → List ℕ → Answer
 encoded q m message word = unlessRefused (encodeChecks q m message word) word (answered Done (wordOf q (columnsOf q) m message))

@@ -10,7 +10,7 @@ use Rattle.code.specs.Terms.{size}
 use Rattle.code.specs.Word.{wordOf}
 use Rattle.code.specs.Exponent.{exponent}
 use Rattle.code.specs.Fitting.{fitting}
-use Rattle.code.specs.Checks.{orderChecks, sliceChecks}
+use Rattle.code.specs.Checks.{callChecks}
 use Rattle.code.specs.Answers.{Answer, answered, unlessRefused}
 
 -- what the list of all messages that fit says: none, this one, or several, with the r for which its length is Q^r
@@ -35,7 +35,7 @@ told (several r) slice = answered (Several r) slice
 
 -- 1, 2, 3, 4 (255 allowed), 5
 abbrev pub recoverChecks : ℕ → ℕ → List ℕ → List ℕ → Outcome
-recoverChecks q m broken slice = orderChecks q m (sliceChecks true (q * q) (q * q * q) broken (size q m) (length slice) Done)
+recoverChecks q m broken slice = callChecks true true q m broken (length slice)
 
 unfoldable pub recovered : ℕ → ℕ → List ℕ → List ℕ → Answer
 recovered q m broken slice =

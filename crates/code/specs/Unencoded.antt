@@ -1,6 +1,6 @@
 -- Unencoding, for every argument: "the joined polynomial is the message only if it has no term of weight above m", said by the
 -- messages: it gives the message whose word the word is, and refuses exactly where there is none.
-use mathlib.Core.Bool.{false}
+use mathlib.Core.Bool.{true, false}
 use mathlib.Core.List.{List, [], _∷_}
 use Prim.Native.Nat.{ℕ, _*_}
 use lib.ListN.{length}
@@ -10,12 +10,12 @@ use Rattle.code.specs.Points.{columnsOf}
 use Rattle.code.specs.Terms.{size}
 use Rattle.code.specs.Word.{wordOf}
 use Rattle.code.specs.Fitting.{fitting}
-use Rattle.code.specs.Checks.{orderChecks, sliceChecks}
+use Rattle.code.specs.Checks.{callChecks}
 use Rattle.code.specs.Answers.{Answer, answered, unlessRefused}
 
 -- 1, 2, 3, 4 (255 is a bad value here), 5
 abbrev pub unencodeChecks : ℕ → ℕ → List ℕ → List ℕ → Outcome
-unencodeChecks q m word slice = orderChecks q m (sliceChecks false (q * q) (q * q * q) word (size q m) (length slice) Done)
+unencodeChecks q m word slice = callChecks false true q m word (length slice)
 
 -- of the messages that have the word (never two), the one
 abbrev pub theMessage : List (List ℕ) → List ℕ → Answer

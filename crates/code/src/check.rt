@@ -2,7 +2,8 @@
 ghost use mathlib.Core.Path.{_≡_};
 ghost use Prim.Native.Nat.{_≤_};
 ghost use Rattle.field.specs.declared.outcome.Outcome.the-variants.{Done};
-ghost use Rattle.code.specs.Checks.{orderChecks, badValue, firstBad, sliceChecks};
+ghost use Rattle.code.specs.Checks.{orderChecks, badValue, firstBad, sliceChecks, callChecks};
+use crate::term;
 use field::Curve;
 use field::Named;
 use field::Outcome;
@@ -69,4 +70,22 @@ pub fn slices(
         return Outcome::BadRoom;
     }
     Outcome::Done
+}
+
+// 1 to 5, of a call that decodes, which takes a word and writes a message, or encodes. Gaps, which are 255, may be allowed.
+pub fn call(gaps: bool, decodes: bool, q: u8, m: usize, input: &[u8], room: usize) -> Outcome
+    ensures { λ r. ⌜ r ≡ callChecks gaps decodes q m (now (input .entry)) room ⌝ }
+{
+    let first = order(q, m);
+    let Outcome::Done = first else {
+        return first;
+    };
+    let symbols = q * q;
+    let n = (symbols as usize) * (q as usize);
+    let k = term::size(q, m);
+    if decodes {
+        slices(gaps, symbols, n, input, k, room)
+    } else {
+        slices(gaps, symbols, k, input, n, room)
+    }
 }

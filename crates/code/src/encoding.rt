@@ -79,19 +79,12 @@ pub fn encode(q: u8, m: u8, message: &[u8], word: &mut [u8]) -> Outcome
     ensures { λ r. ⌜ encoded q m (now (message .entry)) (now (word .entry)) ≡ answered r (now (word .exit)) ⌝ }
 {
     let order = m as usize;
-    let first = check::order(q, order);
-    let Outcome::Done = first else {
-        return first;
-    };
-    let symbols = q * q;
-    let c = symbols as usize;
-    let n = c * (q as usize);
-    let k = term::size(q, order);
-    let second = check::slices(false, symbols, k, message, n, word.len());
-    let Outcome::Done = second else {
-        return second;
+    let checked = check::call(false, false, q, order, message, word.len());
+    let Outcome::Done = checked else {
+        return checked;
     };
     let columns = point::columns();
+    let c = (q * q) as usize;
     write_word(q, &columns[..c], order, message, word);
     Outcome::Done
 }

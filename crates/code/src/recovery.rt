@@ -274,18 +274,12 @@ pub fn recover(q: u8, m: u8, word: &[u8], message: &mut [u8]) -> Outcome
     ensures { λ r. ⌜ recovered q m (now (word .entry)) (now (message .entry)) ≡ answered r (now (message .exit)) ⌝ }
 {
     let order = m as usize;
-    let first = check::order(q, order);
-    let Outcome::Done = first else {
-        return first;
-    };
-    let symbols = q * q;
-    let c = symbols as usize;
-    let n = c * (q as usize);
-    let k = term::size(q, order);
-    let second = check::slices(true, symbols, n, word, k, message.len());
-    let Outcome::Done = second else {
-        return second;
+    let checked = check::call(true, true, q, order, word, message.len());
+    let Outcome::Done = checked else {
+        return checked;
     };
     let columns = point::columns();
+    let c = (q * q) as usize;
+    let k = message.len();
     recover_over(q, &columns[..c], order, k, word, message)
 }

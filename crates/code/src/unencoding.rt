@@ -117,18 +117,11 @@ pub fn unencode(q: u8, m: u8, word: &[u8], message: &mut [u8]) -> Outcome
     ensures { λ r. ⌜ unencoded q m (now (word .entry)) (now (message .entry)) ≡ answered r (now (message .exit)) ⌝ }
 {
     let order = m as usize;
-    let first = check::order(q, order);
-    let Outcome::Done = first else {
-        return first;
-    };
-    let symbols = q * q;
-    let c = symbols as usize;
-    let n = c * (q as usize);
-    let k = term::size(q, order);
-    let second = check::slices(false, symbols, n, word, k, message.len());
-    let Outcome::Done = second else {
-        return second;
+    let checked = check::call(false, true, q, order, word, message.len());
+    let Outcome::Done = checked else {
+        return checked;
     };
     let columns = point::columns();
+    let c = (q * q) as usize;
     read_word(q, &columns[..c], order, word, message)
 }

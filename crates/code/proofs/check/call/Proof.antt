@@ -1,0 +1,84 @@
+-- `code::check::call` meets its contract: a refusal by 1 and 2 is the call's; past them, 3, 4 and 5 decide.
+-- Assumes nothing.
+use mathlib.Core.Bool.{Bool, cond}
+use mathlib.Core.Path.{_≡_, sym, ap, _∙_}
+use Prim.Native.Nat.{ℕ, _*_, _<_}
+use native.Mathlib.Omega.{arith}
+use borrow.Author.Needs.{needs}
+use denote.Ref.{now}
+use Rattle.field.specs.Curve.{IsCurve}
+use Rattle.field.proofs.Curves.{sizes}
+use Rattle.code.specs.Terms.{size}
+use Rattle.code.proofs.Weights.{size-le}
+use Rattle.code.proofs.Checks.{order-done, call-past}
+use Rattle.code.proofs.Answers.{order-refused}
+use Rattle.code.proofs.check.call.Statement.{statement}
+use Rattle.code.proofs.check.call.Tie as tie
+
+-- past the checks 1 and 2
+ordered : (c : tie.After-enum-told) → let x = c .before .before .before .before .args in IsCurve (x .q) × (x .m < x .q * x .q * x .q)
+ordered c = order-done (c .before .before .before .before .args .q) (c .before .before .before .before .args .m) (sym (c .before .before .order .ensures) ∙ c .enum-told .given .1)
+
+order-requires : tie.Need-order-requires
+order-requires c κs = search needs
+
+enum-told : tie.Need-enum-told
+enum-told c = search needs
+
+returns : tie.Need-returns
+returns c = order-refused (c .before .before .before .args .q) (c .before .before .before .args .m) _ (c .before .order .ensures) (c .match .keys2) _
+
+mul-symbols : tie.Need-mul-symbols
+mul-symbols c = omega (arith, sizes _ (ordered c .0) .symbols)
+
+cast-n : tie.Need-cast-n
+cast-n c = omega (arith, sizes _ (ordered c .0) .symbols)
+
+mul-n : tie.Need-mul-n
+mul-n c = omega (arith, sizes _ (ordered c .0) .points)
+
+size-requires : tie.Need-size-requires
+size-requires c κs = (ordered c .0, omega (arith, ordered c .1, sizes _ (ordered c .0) .points))
+
+slices-requires : tie.Need-slices-requires
+slices-requires c κs = omega (arith, sizes _ (ordered (c .before .before) .0) .points)
+
+slices-requires-2 : tie.Need-slices-requires-2
+slices-requires-2 c κs =
+    let x = c .before .before .before .before .before .before .args in
+    let o = ordered (c .before .before) in
+    omega (arith, c .before .size .ensures, size-le (x .q) (x .m), o .1, sizes _ (o .0) .points)
+
+returns-2 : tie.Need-returns-2
+returns-2 c =
+    let x = c .before .before .before .before .before .before .before .args in
+    let k = c .before .before .size .ensures in
+    let d = c .before .if1 .taken in
+    call-past (x .gaps) (x .decodes) (x .q) (x .m) (now (x .input)) (x .room) _ _ _ (ordered (c .before .before .before))
+    (sym (ap (λ (b : Bool). cond b (x .q * x .q * x .q) (size (x .q) (x .m))) d))
+    (k ∙ sym (ap (λ (b : Bool). cond b (size (x .q) (x .m)) (x .q * x .q * x .q)) d)) (c .slices .ensures)
+
+returns-3 : tie.Need-returns-3
+returns-3 c =
+    let x = c .before .before .before .before .before .before .before .args in
+    let k = c .before .before .size .ensures in
+    let d = c .before .if1 .left in
+    call-past (x .gaps) (x .decodes) (x .q) (x .m) (now (x .input)) (x .room) _ _ _ (ordered (c .before .before .before))
+    (k ∙ sym (ap (λ (b : Bool). cond b (x .q * x .q * x .q) (size (x .q) (x .m))) d))
+    (sym (ap (λ (b : Bool). cond b (size (x .q) (x .m)) (x .q * x .q * x .q)) d)) (c .slices2 .ensures)
+
+pub call-spec : {M : Type 1} → statement M
+call-spec =
+    tie.close
+    (tie.spec
+    order-requires
+    enum-told
+    returns
+    mul-symbols
+    cast-n
+    mul-n
+    size-requires
+    slices-requires
+    slices-requires-2
+    returns-2
+    returns-3)

@@ -1,88 +1,123 @@
 -- The equation of a symbol, as the code writes it.
 -- Assumes nothing.
-use mathlib.Core.List.{List, map}
-use mathlib.Core.Path.{_≡_, refl, sym, ap, ap₂, _∙_}
+use mathlib.Core.Bool.{true}
+use mathlib.Core.List.{List, _++_}
+use mathlib.Core.Path.{_≡_, refl, sym, ap, ap₂, _∙_, subst}
 use Prim.Native.Nat.{ℕ, suc, _+_, _-_, _*_, _/_, _%_, _≤_, _<_}
-use native.Mathlib.Nat.{mod-lt, div-lt-iff-lt-mul, mul-comm}
-use native.Mathlib.Numerals.{add-one}
+use native.Mathlib.Nat.{mod-lt, mul-le-mul, lt-mul-div-succ}
 use native.Mathlib.Decide.{ℕ-discrete}
 use native.Mathlib.Omega.{arith}
 use borrow.Author.Tests.{eq-eqb, ne-eqb}
-use lib.ListN.{length, getD, take, set, replicate, length-replicate}
-use lib.Seq.{getD-take, getD-set-same, getD-set-other}
+use borrow.Rule.Slice.PartMut.{putMid}
+use lib.ListN.{length, getD, drop, set, replicate, length-append, length-drop, List·getD-append}
+use lib.Seq.{getD-set-same, getD-set-other}
 use Rattle.field.specs.Curve.{IsCurve}
 use Rattle.field.specs.Power.{power}
 use Rattle.field.proofs.Fields.{fieldOf}
 use Rattle.field.proofs.FieldLaws.{zero-lt}
-use Rattle.field.proofs.Powers.{power-lt}
+use Rattle.field.proofs.Powers.{power-zero, power-next, power-lt}
 use Rattle.field.proofs.Curves.{sizes}
-use Rattle.poly.specs.Ranges.{Below, writes}
+use Rattle.poly.specs.Ranges.{Below, writes, part, Blocks}
 use Rattle.poly.specs.Linear.{entry}
+use Rattle.poly.specs.Rows.{scaled, stored}
 use Rattle.poly.specs.Systems.{Equation, Brought}
 use Rattle.poly.specs.declared.system.Effect.{Effect}
 use Rattle.poly.proofs.Bringing.{brought-same}
-use Rattle.poly.proofs.Blocks.{block-fits}
-use Rattle.poly.proofs.Parts.{part-at}
-use Rattle.poly.proofs.Lists.{getD-map}
-use Rattle.poly.proofs.Writes.{writes-in, below-writes}
+use Rattle.poly.proofs.Blocks.{blocks-more, blocks-at}
+use Rattle.poly.proofs.Multiples.{length-scaled, scaled-in, below-scaled}
+use Rattle.poly.proofs.Parts.{length-part}
+use Rattle.poly.proofs.Writes.{length-writes, writes-in, below-writes}
 use Rattle.poly.proofs.Entries.{below-zeros}
-use Rattle.code.specs.Passing.{passing}
 use Rattle.code.specs.Terms.{isTerm, weights, size}
 use Rattle.code.specs.Word.{monomial}
-use Rattle.code.specs.Grid.{rank}
-use Rattle.code.specs.Recovering.{EquationAt}
+use Rattle.code.specs.Grid.{entryOf, gather}
+use Rattle.code.specs.Recovering.{termAt, EquationAt}
 use Rattle.code.specs.Points.{ysOf}
 use Rattle.code.specs.Columns.{Columns, Ys}
 use Rattle.code.specs.Rows.{rowOf, equationOf}
-use Rattle.code.proofs.GridEntries.{Split, termList}
+use Rattle.code.proofs.Passing.{at-place}
+use Rattle.code.proofs.Weights.{entry-x, entry-y}
+use Rattle.code.proofs.GridEntries.{Split, length-gather, gather-number}
+use Rattle.code.proofs.Stages.{rows-fit}
+use Rattle.code.proofs.YsTables.{table-fits, table-at}
 
--- the value of the term of weight v
-abbrev pub termAt : ℕ → ℕ → ℕ → ℕ → ℕ
-termAt q x y v = monomial q v x y
+-- ---- the grid of the terms
 
-power-at : (q x : ℕ) (xs : List ℕ) → xs ≡ writes (replicate 16 0) 16 (power (fieldOf q) x) → (i : ℕ) → i < 16 → getD xs i 0 ≡ power (fieldOf q) x i
-power-at q x xs e i l =
-    ap (λ (t : List ℕ). getD t i 0) e ∙ writes-in (replicate 16 0) (power (fieldOf q) x) 16 i l (omega (arith, length-replicate {A = ℕ} 16 0))
+-- its row i
+pub record RowAt (q x y i : ℕ) (row : List ℕ) : Type 0 where
+  pub long : length row ≡ 4
+  pub at : (j : ℕ) → j < q → entry row j ≡ termAt q x y i j
+  pub symbols : Below (fieldOf q .size) row
 
-pub powers-below : (q x : ℕ) (xs : List ℕ) → xs ≡ writes (replicate 16 0) 16 (power (fieldOf q) x) → Below (fieldOf q .size) xs
-powers-below q x xs e i =
-    rw e (below-writes (replicate 16 0) (power (fieldOf q) x) (fieldOf q .size) 16 (omega (arith, length-replicate {A = ℕ} 16 0))
-    (below-zeros (fieldOf q .size) 16 (zero-lt (fieldOf q))) (λ j l. power-lt (fieldOf q) x j) i)
+module _ (q x y : ℕ) (curve : IsCurve q) where
+  pub row-start : (row : List ℕ) → row ≡ writes (replicate 4 0) 4 (power (fieldOf q) y) → RowAt q x y 0 row
+  row-start row e =
+      let F = fieldOf q in
+      let p = power F y in
+      let zeros = replicate {A = ℕ} 4 0 in
+      record {
+        long = ap length e ∙ length-writes zeros p 4;
+        at = λ j l.
+            ap (λ (t : List ℕ). entry t j) e ∙ writes-in zeros p 4 j (omega (arith, sizes q curve .high)) (omega arith)
+            ∙ sym (ap (λ (a : ℕ). F .times a (p j)) (power-zero F x) ∙ F .times-one (p j) (power-lt F y j));
+        symbols = subst (Below (F .size)) (sym e)
+            (below-writes zeros p (F .size) 4 (omega arith) (below-zeros (F .size) 4 (zero-lt F)) (λ j l. power-lt F y j));
+      }
 
-module _ (q m w i j : ℕ) (curve : IsCurve q) (d : Split q w i j) (wm : w ≤ m) (small : m < q * 16) where
-  pub whole-lt : i < 16
-  whole-lt =
-      let pos : 0 < q = omega (arith, sizes q curve .low) in
-      let l : w < 16 * q = omega (arith, mul-comm q 16) in
-      rw (d .0) (div-lt-iff-lt-mul {x = w} {y = 16} pos .1 l)
+  -- each row is x times the one before
+  pub row-turn : (i : ℕ) (row next : List ℕ) → RowAt q x y i row → next ≡ scaled (fieldOf q) x q row → RowAt q x y (i + 1) next
+  row-turn i row next h e =
+      let F = fieldOf q in
+      let fits : q ≤ length row = omega (arith, sizes q curve .high, h .long) in
+      record {
+        long = ap length e ∙ length-scaled F x q row ∙ h .long;
+        at = λ j l.
+            ap (λ (t : List ℕ). entry t j) e ∙ scaled-in F x q row j l fits ∙ ap (F .times x) (h .at j l)
+            ∙ sym (F .times-assoc x (power F x i) (power F y j)) ∙ ap (λ (a : ℕ). F .times a (power F y j)) (sym (power-next F x i));
+        symbols = subst (Below (F .size)) (sym e) (below-scaled F x q row fits (h .symbols));
+      }
 
-  pub rest-lt : j < 16
-  rest-lt =
+  -- row n comes into the grid
+  pub row-stored : (grid row new : List ℕ) (n at : ℕ) → Blocks q (termAt q x y) grid n → RowAt q x y n row → at ≡ q * n → at + q ≤ length grid
+      → new ≡ stored q row (part grid at (at + q)) → Blocks q (termAt q x y) (putMid at (at + q - at) grid new) (n + 1)
+  unfolding stored
+  row-stored grid row new n at h r is-at fits e =
+      let old = part grid at (at + q) in
+      let long : length old ≡ q = length-part grid at (at + q) (omega arith) fits ∙ omega arith in
+      blocks-more q (termAt q x y) grid new n at (at + q) h is-at refl fits (ap length e ∙ length-writes old (entry row) q ∙ long)
+      (λ j l. ap (λ (t : List ℕ). entry t j) e ∙ writes-in old (entry row) q j l (omega arith) ∙ r .at j l)
+
+  -- the rows that the terms of the order m need
+  pub rows-room : (m : ℕ) → m < q * 16 → q * (m / q + 1) ≤ 64
+  rows-room m l =
       let z = sizes q curve in
-      let pos : 0 < q = omega (arith, z .low) in
-      omega (arith, d .1, mod-lt w pos, z .high)
+      omega (arith, mul-le-mul (z .high) (rows-fit q m 16 (omega (arith, z .low)) l))
 
-  pub term-value : (x y : ℕ) (xs ys : List ℕ) → xs ≡ writes (replicate 16 0) 16 (power (fieldOf q) x) → ys ≡ writes (replicate 16 0) 16 (power (fieldOf q) y)
-      → fieldOf q .times (getD xs (i - j) 0) (getD ys j 0) ≡ termAt q x y w
-  term-value x y xs ys ex ey =
-      ap₂ (fieldOf q .times) (power-at q x xs ex (i - j) (omega (arith, whole-lt)) ∙ ap₂ (λ (a b : ℕ). power (fieldOf q) x (a - b)) (d .0) (d .1))
-      (power-at q y ys ey j rest-lt ∙ ap (power (fieldOf q) y) (d .1))
+  -- the term of weight w stands at its entry
+  term-entry : (m : ℕ) (grid : List ℕ) → Blocks q (termAt q x y) grid (m / q + 1) → (w : ℕ) → isTerm q w ≡ true → w ≤ m
+      → getD grid (entryOf q w) 0 ≡ monomial q w x y
+  term-entry m grid h w t l =
+      let pos : 0 < q = omega (arith, sizes q curve .low) in
+      blocks-at q pos (m / q + 1) (termAt q x y) grid h (entryOf q w) (omega (arith, lt-mul-div-succ m pos))
+      ∙ ap₂ (termAt q x y) (entry-x q pos w t) (entry-y q pos w t)
 
--- all terms are written, and the symbol after them
-pub equation-end : (q m x y s : ℕ) (row : List ℕ) (w k : ℕ) → take k row ≡ termList (termAt q x y) q w → w ≡ m + 1 → k ≡ rank q w → size q m < length row
-    → EquationAt q m x y s (set row k s)
-equation-end q m x y s row w k e is-w is-k l =
-    record {
-      coefficients = λ n b.
-          getD-set-other row k n s 0 (omega (arith, is-size))
-          ∙ sym (getD-take k row n 0 (omega (arith, is-size)))
-          ∙ ap (λ (t : List ℕ). getD t n 0) (e ∙ ap (termList (termAt q x y) q) (is-w ∙ add-one m))
-          ∙ getD-map (termAt q x y) (weights q m) 0 0 n b;
-      side = ap (entry (set row k s)) (sym is-size) ∙ getD-set-same row k s 0 (omega (arith, is-size));
-    }
-  where
-    is-size : k ≡ size q m
-    is-size = is-k ∙ ap (rank q) (is-w ∙ add-one m)
+  -- the terms of the order m, gathered, and the symbol after them
+  pub equation-written : (m s k : ℕ) (grid row new : List ℕ) → k ≡ size q m → k < length row → Blocks q (termAt q x y) grid (m / q + 1)
+      → new ≡ gather q m grid → EquationAt q m x y s (set (new ++ drop k row) k s)
+  equation-written m s k grid row new is-k fits h e =
+      record {
+        coefficients = λ n l.
+            let w = at-place (isTerm q) (suc m) n l in
+            getD-set-other (new ++ drop k row) k n s 0 (omega arith)
+            ∙ List·getD-append new (drop k row) 0 n (omega (arith, long))
+            ∙ ap (λ (t : List ℕ). getD t n 0) e ∙ gather-number q m grid n l ∙ term-entry m grid h (getD (weights q m) n 0) (w .1) (omega (arith, w .0));
+        side =
+            ap (entry (set (new ++ drop k row) k s)) (sym is-k)
+            ∙ getD-set-same (new ++ drop k row) k s 0 (rw (length-append, length-drop) (omega (arith, long)));
+      }
+    where
+      long : length new ≡ size q m
+      long = ap length e ∙ length-gather q m grid
 
 -- ---- the equation of a place
 
@@ -114,27 +149,18 @@ module _ (q : ℕ) (columns : List ℕ) (m p s x y : ℕ) (row : List ℕ) (e : 
 
 -- the column of a place
 pub place-column : (q : ℕ) → IsCurve q → (c p i j : ℕ) → Split q p i j → p < q * c → i < c
-place-column q curve c p i j d l =
-    let pos : 0 < q = omega (arith, sizes q curve .low) in
-    let small : p < c * q = omega (arith, mul-comm q c) in
-    rw (d .0) (div-lt-iff-lt-mul {x = p} {y = c} pos .1 small)
+place-column q curve c p i j d l = omega (arith, d .0, rows-fit q p c (omega (arith, sizes q curve .low)) l)
 
 -- the point of a place, in the table of all ys
 pub place-point : (q : ℕ) (columns : List ℕ) → Columns q columns → (p i j : ℕ) → Split q p i j → p < q * length columns → (ys : List ℕ) → Ys q ys
-    → (i < length columns) × (j < q) × (q * getD columns i 0 + j < 64)
+    → (i < length columns) × (q * getD columns i 0 + j < 64)
     × (getD ys (q * getD columns i 0 + j) 0 ≡ getD (ysOf q (getD columns (p / q) 0)) (p % q) 0)
 place-point q columns h p i j d l ys table =
-    let z = sizes q (h .curve) in
-    let pos : 0 < q = omega (arith, z .low) in
     let il = place-column q (h .curve) (length columns) p i j d l in
-    let jl : j < q = rw (d .1) (mod-lt p pos) in
+    let jl : j < q = rw (d .1) (mod-lt p (omega (arith, sizes q (h .curve) .low))) in
     let x = getD columns i 0 in
-    let xl : x < q * q = h .small i il in
-    let fits : q * x + q ≤ q * (q * q) = block-fits q x (q * q) xl in (
+    let xl = h .small i il in (
       il,
-      jl,
-      omega (arith, z .grid, z .points),
-      sym (part-at ys (q * x) (q * x + q) j (omega arith))
-          ∙ ap (λ (u : List ℕ). getD u j 0) (table .column x xl)
-          ∙ ap₂ (λ (a b : ℕ). getD (ysOf q (getD columns a 0)) b 0) (d .0) (d .1),
+      table-fits q (h .curve) x j xl jl,
+      table-at q ys table x j xl jl ∙ ap₂ (λ (a b : ℕ). getD (ysOf q (getD columns a 0)) b 0) (d .0) (d .1),
     )

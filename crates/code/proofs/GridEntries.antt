@@ -2,7 +2,7 @@
 -- Assumes nothing.
 use mathlib.Core.Bool.{Bool, true, false}
 use mathlib.Core.Logic.{_⊎_, inl, inr}
-use mathlib.Core.List.{List, [], _∷_, _++_, map, map-append}
+use mathlib.Core.List.{List, [], _∷_, map, map-append}
 use mathlib.Core.Path.{_≡_, refl, sym, ap, _∙_}
 use Prim.Native.Nat.{ℕ, zero, suc, _+_, _-_, _*_, _/_, _%_, _≤_, _<_}
 use native.Mathlib.Decide.{decLt, ℕ-discrete}
@@ -10,7 +10,7 @@ use native.Mathlib.Nat.{mul-le-mul-left, div-add-mod}
 use native.Mathlib.Numerals.{add-one}
 use native.Mathlib.Omega.{arith}
 use borrow.Author.Tests.{le-leb, lt-leb}
-use lib.ListN.{length, getD, take, set, replicate, length-set, length-replicate, getD-replicate, length-map, List·getD-eq-default}
+use lib.ListN.{length, getD, take, set, replicate, length-set, length-replicate, length-map}
 use lib.Seq.{take-suc-set, take-all, getD-set-same, getD-set-other, ext-getD}
 use Rattle.poly.proofs.Bools.{true-or-false}
 use Rattle.poly.proofs.Lists.{getD-map}
@@ -92,10 +92,13 @@ module _ (q m : ℕ) (grid : List ℕ) where
   unfolding gather
   length-gather = length-map (weights q m) (λ w. getD grid (entryOf q w) 0)
 
-  pub gather-at : (w : ℕ) → isTerm q w ≡ true → w ≤ m → getD (gather q m grid) (rank q w) 0 ≡ getD grid (entryOf q w) 0
+  pub gather-number : (n : ℕ) → n < size q m → getD (gather q m grid) n 0 ≡ getD grid (entryOf q (getD (weights q m) n 0)) 0
   unfolding gather
+  gather-number n l = getD-map (λ w. getD grid (entryOf q w) 0) (weights q m) 0 0 n l
+
+  pub gather-at : (w : ℕ) → isTerm q w ≡ true → w ≤ m → getD (gather q m grid) (rank q w) 0 ≡ getD grid (entryOf q w) 0
   gather-at w t l =
-      getD-map (λ v. getD grid (entryOf q v) 0) (weights q m) 0 0 (rank q w) (place-lt (isTerm q) w (suc m) t (omega arith))
+      gather-number (rank q w) (place-lt (isTerm q) w (suc m) t (omega arith))
       ∙ ap (λ (v : ℕ). getD grid (entryOf q v) 0) (passing-at (isTerm q) (suc m) w t (omega arith))
 
 module _ (q : ℕ) (pos : 0 < q) (n m : ℕ) where

@@ -6,6 +6,7 @@ use mathlib.Core.Path.{_≡_}
 use Prim.Native.Nat.{ℕ, _+_, _*_, _≤_, _<_}
 use lib.Dec.{T}
 use lib.ListN.{length, getD}
+use Rattle.field.specs.Power.{power}
 use Rattle.field.proofs.Fields.{fieldOf}
 use Rattle.poly.specs.Messages.{Vector}
 use Rattle.poly.specs.Linear.{entry, dot}
@@ -16,6 +17,10 @@ use Rattle.code.specs.Fitting.{fits}
 use Rattle.code.specs.Columns.{Columns}
 use Rattle.code.specs.Rows.{rowOf}
 use Rattle.code.specs.declared.recovery.Progress.{Progress}
+
+-- x^i·y^j
+abbrev pub termAt : ℕ → ℕ → ℕ → ℕ → ℕ → ℕ
+termAt q x y i j = fieldOf q .times (power (fieldOf q) x i) (power (fieldOf q) y j)
 
 -- row is the equation of the symbol s at the point (x, y)
 pub record EquationAt (q m x y s : ℕ) (row : List ℕ) : Type 0 where

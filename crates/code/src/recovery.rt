@@ -2,23 +2,24 @@
 ghost use mathlib.Core.Bool.{Bool};
 ghost use mathlib.Core.Path.{_≡_};
 ghost use Prim.Native.Nat.{ℕ, _+_, _*_, _≤_, _<_};
-ghost use lib.ListN.{length, getD, replicate};
+ghost use lib.ListN.{length};
 ghost use Rattle.field.specs.Curve.{IsCurve};
 ghost use Rattle.field.specs.Power.{power};
 ghost use Rattle.field.proofs.Fields.{fieldOf};
-ghost use Rattle.poly.specs.Ranges.{writes};
+ghost use Rattle.poly.specs.Ranges.{writes, Blocks};
 ghost use Rattle.poly.specs.Linear.{entry};
 ghost use Rattle.poly.specs.Systems.{flat, Full, WellFormed, Brought, Solves};
 ghost use Rattle.code.specs.Terms.{size};
 ghost use Rattle.code.specs.Columns.{Columns};
 ghost use Rattle.code.specs.Rows.{equationOf};
-ghost use Rattle.code.specs.Recovering.{EquationAt, BrokenOver, Advanced, Ended, Finished};
+ghost use Rattle.code.specs.Recovering.{termAt, EquationAt, BrokenOver, Advanced, Ended, Finished};
 ghost use Rattle.code.specs.Word.{wordOf};
 ghost use Rattle.code.specs.Fitting.{agrees, fits};
 ghost use Rattle.code.specs.Answers.{answered};
 ghost use Rattle.code.specs.Recovered.{reading, told, recovered};
 use crate::check;
 use crate::encoding;
+use crate::grid;
 use crate::point;
 use crate::term;
 use crate::unencoding;
@@ -33,43 +34,52 @@ pub struct Progress {
     pub rank: usize,
 }
 
-// x^0, x^1, .., x^15.
-fn powers(q: u8, x: u8) -> [u8; 16]
+// x^0, x^1, .., one for each element of out.
+fn powers(q: u8, x: u8, out: &mut [u8])
     requires { ⌜ x < fieldOf q .size ⌝ }
-    ensures { λ r. ⌜ r ≡ writes (replicate 16 0) 16 (power (fieldOf q) x) ⌝ }
+    ensures { λ _. ⌜ now (out .exit) ≡ writes (now (out .entry)) (length (now (out .entry))) (power (fieldOf q) x) ⌝ }
 {
-    let mut out = [0u8; 16];
     let mut next = 1u8;
     let mut i = 0;
-    while i < 16 {
+    while i < out.len() {
         out[i] = next;
         next = field::symbol::times(q, x, next);
         i += 1;
     }
-    out
+}
+
+// The terms at the point (x, y), laid out as a grid of n rows: x^i·y^j at q * i + j.
+fn monomials(q: u8, x: u8, y: u8, n: usize, grid: &mut [u8])
+    requires { ⌜ IsCurve q × (q * n ≤ length (now grid)) ⌝ }
+    requires { ⌜ (x < fieldOf q .size) × (y < fieldOf q .size) ⌝ }
+    ensures { λ _. ⌜ Blocks q (termAt q x y) (now (grid .exit)) n ⌝ }
+{
+    let width = q as usize;
+    let mut row = [0u8; 4];
+    powers(q, y, &mut row);
+    let mut i = 0;
+    let mut at = 0;
+    while i < n {
+        let end = at + width;
+        rows::copy(width, &row, &mut grid[at..end]);
+        rows::scale(q, x, width, &mut row);
+        at = end;
+        i += 1;
+    }
 }
 
 // The equation of the symbol s at the point (x, y): the values of the terms there, and s.
-fn write_equation(q: u8, m: usize, x: u8, y: u8, s: u8, row: &mut [u8])
-    requires { ⌜ IsCurve q × (m < q * 16) × (size q m < length (now row)) ⌝ }
+fn write_equation(q: u8, m: usize, k: usize, x: u8, y: u8, s: u8, row: &mut [u8])
+    requires { ⌜ IsCurve q × (m < q * 16) × (k ≡ size q m) × (size q m < length (now row)) ⌝ }
     requires { ⌜ (x < fieldOf q .size) × (y < fieldOf q .size) ⌝ }
     ensures { λ _. ⌜ EquationAt q m x y s (now (row .exit)) ⌝ }
 {
-    let xs = powers(q, x);
-    let ys = powers(q, y);
-    let mut w = 0;
-    let mut n = 0;
-    while w <= m {
-        let d = term::divide(q, w);
-        let i = d.whole;
-        let j = d.rest;
-        if j <= i {
-            row[n] = field::symbol::times(q, xs[i - j], ys[j]);
-            n += 1;
-        }
-        w += 1;
-    }
-    row[n] = s;
+    let mut grid = [0u8; 64];
+    let last = term::divide(q, m);
+    let n = last.whole + 1;
+    monomials(q, x, y, n, &mut grid);
+    grid::gather(q, m, &grid, &mut row[..k]);
+    row[k] = s;
 }
 
 // Brings in the symbol s of place p.
@@ -94,7 +104,7 @@ fn bring_place(
     let at = (q as usize) * (x as usize) + d.rest;
     let y = ys[at];
     let mut row = [0u8; 64];
-    write_equation(q, m, x, y, s, &mut row);
+    write_equation(q, m, k, x, y, s, &mut row);
     let n = (k / 16 + 1) * 16;
     system::bring_in(q, 64, n, k, work, &mut row)
 }

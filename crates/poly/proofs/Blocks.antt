@@ -1,9 +1,9 @@
 -- Lists that are written block by block, each block a part that is lent and comes back.
 -- Assumes nothing.
 use mathlib.Core.List.{List}
-use mathlib.Core.Path.{_≡_, refl, sym, ap, _∙_}
-use Prim.Native.Nat.{ℕ, zero, suc, _+_, _-_, _*_, _/_, _%_, _≤_, _<_}
-use native.Mathlib.Nat.{mul-suc, mul-zero, mul-le-mul-left, div-add-mod, mod-lt, div-lt-iff-lt-mul, mul-comm}
+use mathlib.Core.Path.{_≡_, sym, ap, _∙_}
+use Prim.Native.Nat.{ℕ, _+_, _-_, _*_, _/_, _%_, _≤_, _<_}
+use native.Mathlib.Nat.{mul-suc, mul-le-mul-left, div-add-mod, mod-lt, div-lt-iff-lt-mul, mul-comm}
 use native.Mathlib.Numerals.{add-one}
 use native.Mathlib.Decide.{ℕ-discrete, decLt}
 use native.Mathlib.Omega.{arith}
@@ -39,24 +39,25 @@ block-start width n a e is-a is-e = omega (arith, ap (λ (x : ℕ). width * x) (
 pub block-fits : (width n m : ℕ) → n < m → width * n + width ≤ width * m
 block-fits width n m l = omega (arith, mul-suc width n, mul-le-mul-left width l)
 
--- two lists of the same blocks are equal
+-- a list of n blocks
 module _ (width : ℕ) (pos : 0 < width) (n : ℕ) where
-  block-of : (p : ℕ) → p < width * n → (p / width < n) × (p % width < width) × (width * (p / width) + p % width ≡ p)
-  block-of p l = (div-lt-iff-lt-mul {x = p} {y = n} pos .1 (rw (mul-comm width n) at l), mod-lt p pos, div-add-mod p width)
+  block-of : (p : ℕ) → p < width * n → (p / width < n) × (p % width < width)
+  block-of p l = (div-lt-iff-lt-mul {x = p} {y = n} pos .1 (rw (mul-comm width n) at l), mod-lt p pos)
 
+  pub blocks-at : (f : ℕ → ℕ → ℕ) (l : List ℕ) → Blocks width f l n → (p : ℕ) → p < width * n → getD l p 0 ≡ f (p / width) (p % width)
+  blocks-at f l h p b =
+      let w = block-of p b in
+      ap (λ (x : ℕ). getD l x 0) (sym (div-add-mod p width)) ∙ h .at (p / width) (p % width) (w .0) (w .1)
+
+  -- two of the same blocks are equal
   pub blocks-ext : (f : ℕ → ℕ → ℕ) (l k : List ℕ) → length l ≡ width * n → length k ≡ width * n → Blocks width f l n → Blocks width f k n → l ≡ k
   blocks-ext f l k ll lk hl hk =
-      ext-getD 0 l k (ll ∙ sym lk) (λ p b.
-      let w = block-of p (omega arith) in
-      ap (λ (x : ℕ). getD l x 0) (sym (w .2)) ∙ hl .at (p / width) (p % width) (w .0) (w .1)
-      ∙ sym (ap (λ (x : ℕ). getD k x 0) (sym (w .2)) ∙ hk .at (p / width) (p % width) (w .0) (w .1)))
+      ext-getD 0 l k (ll ∙ sym lk) (λ p b. let w : p < width * n = omega arith in blocks-at f l hl p w ∙ sym (blocks-at f k hk p w))
 
   -- blocks of small numbers
   pub blocks-below : (f : ℕ → ℕ → ℕ) (l : List ℕ) (b : ℕ) → 0 < b → length l ≡ width * n → Blocks width f l n
       → ((i j : ℕ) → i < n → j < width → f i j < b) → Below b l
   blocks-below f l b z ll h small p = elim (decLt p (width * n)) [
-    | yes k ↦
-        let w = block-of p k in
-        rw (← w .2, h .at (p / width) (p % width) (w .0) (w .1)) (small (p / width) (p % width) (w .0) (w .1))
+    | yes k ↦ let w = block-of p k in rw (blocks-at f l h p k) (small (p / width) (p % width) (w .0) (w .1))
     | no d ↦ rw (List·getD-eq-default l 0 {n = p} (omega arith)) z
   ]

@@ -1,6 +1,6 @@
 -- `code::recovery::bring_place` meets its contract: the equation of the place is brought in.
 -- Assumes nothing.
-use mathlib.Core.Path.{_≡_, refl, sym, ap, _∙_, subst}
+use mathlib.Core.Path.{_≡_, sym, ap, subst}
 use Prim.Native.Nat.{ℕ, _+_, _*_, _/_, _%_, _<_}
 use native.Mathlib.Omega.{arith}
 use borrow.Author.Needs.{needs}
@@ -19,7 +19,7 @@ use Rattle.code.proofs.recovery.bring_place.Tie as tie
 
 -- the point of the place
 point : (c : tie.After-ys) → let x = c .before .before .before .before .before .args in let d = c .before .before .divide .result in
-    (d .whole < length (now (x .columns))) × (d .rest < x .q) × (x .q * getD (now (x .columns)) (d .whole) 0 + d .rest < 64)
+    (d .whole < length (now (x .columns))) × (x .q * getD (now (x .columns)) (d .whole) 0 + d .rest < 64)
     × (getD (c .ys .result) (x .q * getD (now (x .columns)) (d .whole) 0 + d .rest) 0 ≡ getD (ysOf (x .q) (getD (now (x .columns)) (x .p / x .q) 0)) (x .p % x .q) 0)
 point c =
     let s = c .before .before .before .before .before in
@@ -47,13 +47,13 @@ cast-at : tie.Need-cast-at
 cast-at c = omega (arith, c .before .shared-slice-known2 .given (c .before .before .divide .result .whole))
 
 mul-at : tie.Need-mul-at
-mul-at c = omega (arith, point c .2)
+mul-at c = omega (arith, point c .1)
 
 add-at : tie.Need-add-at
-add-at c = omega (arith, point (c .before) .2)
+add-at c = omega (arith, point (c .before) .1)
 
 array-read-y : tie.Need-array-read-y
-array-read-y c = point (c .before) .2
+array-read-y c = point (c .before) .1
 
 slice-aggregate-write-equation : tie.Need-slice-aggregate-write-equation
 slice-aggregate-write-equation c = search needs
@@ -65,8 +65,8 @@ write-equation-requires c κs =
     let y = c .before .before in
     let z = sizes q (s .pre .0 .0 .curve) in
     let small = x-lt y in (
-      (s .pre .0 .0 .curve, s .pre .0 .2, s .pre .1 .room),
-      (omega (arith, z .size), rw (point y .3) (ys-below q (s .pre .0 .0 .curve) _ (rw (x-is y) at small) (s .args .p % q))),
+      (s .pre .0 .0 .curve, s .pre .0 .2, s .pre .0 .3, s .pre .1 .room),
+      (omega (arith, z .size), rw (point y .2) (ys-below q (s .pre .0 .0 .curve) _ (rw (x-is y) at small) (s .args .p % q))),
     )
 
 add-n : tie.Need-add-n
@@ -86,13 +86,13 @@ bring-in-requires c κs =
     let y = c .before .before .before .before .before .before in
     let is-k = sym (s .pre .0 .3) in
     let room = s .pre .1 .room in
-    let long : size (x .q) (x .m) < length (e .last .1 .1 .1 .1 .1 .0) = omega (arith, e .kept .1 .1 .1 .1 .1 .0, room) in (
+    let long : size (x .q) (x .m) < length (e .last .1 .1 .1 .1 .1 .1 .0) = omega (arith, e .kept .1 .1 .1 .1 .1 .1 .0, room) in (
       (
         subst (λ (k : ℕ). WellFormed (fieldOf (x .q)) 64 k (now (x .work))) is-k (s .pre .1),
-        subst (λ (k : ℕ). Equation (fieldOf (x .q)) k (e .last .1 .1 .1 .1 .1 .0)) is-k
-            (equation-formed (x .q) (now (x .columns)) (x .m) (x .p) (x .s) _ _ _ (e .ensures) (x-is y) (point y .3) (s .pre .0 .4) long),
+        subst (λ (k : ℕ). Equation (fieldOf (x .q)) k (e .last .1 .1 .1 .1 .1 .1 .0)) is-k
+            (equation-formed (x .q) (now (x .columns)) (x .m) (x .p) (x .s) _ _ _ (e .ensures) (x-is y) (point y .2) (s .pre .0 .4) long),
       ),
-      (omega arith, omega (arith, is-k, room), omega (arith, is-k, room, e .kept .1 .1 .1 .1 .1 .0)),
+      (omega arith, omega (arith, is-k, room), omega (arith, is-k, room, e .kept .1 .1 .1 .1 .1 .1 .0)),
     )
 
 same-length : tie.Need-same-length
@@ -108,8 +108,8 @@ returns c =
     let is-k = s .pre .0 .3 in
     let work = b .last .1 .1 .1 .1 .0 in (
       subst (λ (k : ℕ). WellFormed (fieldOf (x .q)) 64 k work) is-k (b .ensures .0),
-      place-brought (x .q) (now (x .columns)) (x .m) (x .p) (x .s) _ _ _ (e .ensures) (x-is y) (point y .3) (now (x .work)) work (b .result)
-          (subst (λ (k : ℕ). Brought (fieldOf (x .q)) 64 k (now (x .work)) (entry (e .last .1 .1 .1 .1 .1 .0)) work (b .result)) is-k (b .ensures .1)),
+      place-brought (x .q) (now (x .columns)) (x .m) (x .p) (x .s) _ _ _ (e .ensures) (x-is y) (point y .2) (now (x .work)) work (b .result)
+          (subst (λ (k : ℕ). Brought (fieldOf (x .q)) 64 k (now (x .work)) (entry (e .last .1 .1 .1 .1 .1 .1 .0)) work (b .result)) is-k (b .ensures .1)),
     )
 
 pub bring-place-spec : {M : Type 1} → statement M

@@ -3,7 +3,8 @@
 use mathlib.Core.Path.{_≡_, refl, sym, ap, _∙_}
 use Prim.Native.Nat.{_-_, _≤_}
 use native.Mathlib.Omega.{arith}
-use lib.ListN.{replicate}
+use denote.Ref.{now}
+use lib.ListN.{length, length-set}
 use Rattle.field.specs.Power.{power}
 use Rattle.field.proofs.Fields.{fieldOf}
 use Rattle.field.proofs.Powers.{power-zero, power-next, power-lt}
@@ -13,20 +14,23 @@ use Rattle.code.proofs.recovery.powers.Statement.{statement}
 use Rattle.code.proofs.recovery.powers.Tie as tie
 
 abbrev Inv-loop : tie.InvT-loop
-Inv-loop q x out₀ next₀ i₀ out next i = (i ≤ 16) × (next ≡ power (fieldOf q) x i) × (out ≡ writes (replicate 16 0) i (power (fieldOf q) x))
+Inv-loop q x out₀ next₀ i₀ out next i =
+    (i ≤ length out₀) × (length out ≡ length out₀) × (next ≡ power (fieldOf q) x i) × (out ≡ writes out₀ i (power (fieldOf q) x))
 
 abbrev μ-loop : tie.MeasureT-loop
-μ-loop q x out₀ next₀ i₀ out next i = 16 - i
+μ-loop q x out₀ next₀ i₀ out next i = length out₀ - i
 
 loop-holds : tie.Need-loop-holds Inv-loop μ-loop
 unfolding writes
-loop-holds c = (omega arith, sym (power-zero (fieldOf (c .args .q)) (c .args .x)), refl)
+loop-holds c = (omega arith, refl, sym (power-zero (fieldOf (c .before .args .q)) (c .before .args .x)), refl)
 
-array-write-out : tie.Need-array-write-out Inv-loop μ-loop
-array-write-out c = omega arith
+slice-write-out : tie.Need-slice-write-out Inv-loop μ-loop
+slice-write-out c = omega arith
 
 times-requires : tie.Need-times-requires Inv-loop μ-loop
-times-requires c κs = (c .before .before .pre, rw (c .before .loop .inv .1) (power-lt (fieldOf (c .before .before .args .q)) (c .before .before .args .x) (c .before .loop .i)))
+times-requires c κs =
+    let s = c .before .before .before in
+    (s .pre, rw (c .before .loop .inv .2) (power-lt (fieldOf (s .args .q)) (s .args .x) (c .before .loop .i)))
 
 add-i : tie.Need-add-i Inv-loop μ-loop
 add-i c = omega arith
@@ -36,21 +40,32 @@ loop-less c = omega arith
 
 loop-again : tie.Need-loop-again Inv-loop μ-loop
 loop-again c =
-    let x = c .before .before .before .args in
+    let x = c .before .before .before .before .args in
     let l = c .before .before .loop in
     let F = fieldOf (x .q) in (
       omega arith,
-      c .times .ensures ∙ ap (F .times (x .x)) (l .inv .1) ∙ sym (power-next F (x .x) (l .i)),
-      writes-turn (replicate 16 0) (power F (x .x)) (l .out) (l .i) (l .next) (l .inv .2) (l .inv .1),
+      simp length-set (l .inv .1),
+      c .times .ensures ∙ ap (F .times (x .x)) (l .inv .2) ∙ sym (power-next F (x .x) (l .i)),
+      writes-turn (now (x .out)) (power F (x .x)) (l .out) (l .i) (l .next) (l .inv .3) (l .inv .2),
     )
 
+same-length : tie.Need-same-length Inv-loop μ-loop
+same-length c = c .before .loop .inv .1
+
 returns : tie.Need-returns Inv-loop μ-loop
-returns c =
-    let x = c .before .before .args in
-    let l = c .before .loop in
-    writes-end (replicate 16 0) (power (fieldOf (x .q)) (x .x)) (l .out) (l .i) 16 (l .inv .2) (l .inv .0) (c .loop-test .left)
+returns c = let l = c .before .loop in writes-end _ _ _ _ _ (l .inv .3) (l .inv .0) (omega arith)
 
 pub powers-spec : {M : Type 1} → statement M
 powers-spec =
     tie.close
-    (tie.spec Inv-loop μ-loop loop-holds array-write-out times-requires add-i loop-less loop-again returns)
+    (tie.spec
+    Inv-loop
+    μ-loop
+    loop-holds
+    slice-write-out
+    times-requires
+    add-i
+    loop-less
+    loop-again
+    same-length
+    returns)

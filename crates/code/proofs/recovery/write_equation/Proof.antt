@@ -1,137 +1,86 @@
--- `code::recovery::write_equation` meets its contract: the values of the terms of weight below w are written.
+-- `code::recovery::write_equation` meets its contract: the terms are gathered from their grid.
 -- Assumes nothing.
-use mathlib.Core.Logic.{⊎-elim}
-use mathlib.Core.Path.{_≡_, refl, sym, ap, _∙_}
-use Prim.Native.Nat.{ℕ, _+_, _-_, _≤_, _<_}
-use native.Mathlib.Numerals.{add-one}
+use mathlib.Core.Path.{_≡_, sym, _∙_, subst}
+use Prim.Native.Nat.{ℕ, _+_, _*_, _≤_}
+use native.Mathlib.Nat.{div-le-self}
 use native.Mathlib.Omega.{arith}
 use borrow.Author.Needs.{needs}
 use denote.Ref.{now}
-use lib.ListN.{length, take, length-set, getD, replicate}
-use Rattle.field.specs.Power.{power}
-use Rattle.field.proofs.Fields.{fieldOf}
-use Rattle.field.proofs.Powers.{power-lt}
-use Rattle.field.proofs.FieldLaws.{zero-lt}
-use Rattle.poly.specs.Ranges.{Below}
-use Rattle.poly.proofs.Writes.{below-writes}
-use Rattle.poly.proofs.Entries.{below-zeros}
-use Rattle.code.specs.Grid.{rank}
-use Rattle.code.proofs.GridEntries.{termList, terms-start, terms-turn, terms-skip, rank-turn, rank-skip, rank-zero, rank-lt}
-use Rattle.code.proofs.Equations.{termAt, powers-below, whole-lt, rest-lt, term-value, equation-end}
+use lib.ListN.{length, take}
+use lib.Seq.{length-take-le}
+use Rattle.field.proofs.Curves.{sizes}
+use Rattle.poly.specs.Ranges.{Blocks}
+use Rattle.code.specs.Recovering.{termAt}
+use Rattle.code.proofs.Equations.{rows-room, equation-written}
 use Rattle.code.proofs.recovery.write_equation.Statement.{statement}
 use Rattle.code.proofs.recovery.write_equation.Tie as tie
 
-abbrev Inv-loop : tie.InvT-loop
-Inv-loop q m x y s row₀ xs ys w₀ n₀ row w n =
-    (w ≤ m + 1) × (n ≡ rank q w) × (length row ≡ length row₀) × (take n row ≡ termList (termAt q x y) q w)
+divide-requires : tie.Need-divide-requires
+divide-requires c κs = search needs
 
-abbrev μ-loop : tie.MeasureT-loop
-μ-loop q m x y s row₀ xs ys w₀ n₀ row w n = m + 1 - w
+add-n : tie.Need-add-n
+add-n c =
+    let s = c .before .before .before in
+    omega (arith, c .before .divide .ensures .0, div-le-self (s .args .m) (s .args .q), s .pre .0 .1)
 
-powers-requires : tie.Need-powers-requires Inv-loop μ-loop
-powers-requires c κs = c .before .pre .1 .0
+slice-aggregate-monomials : tie.Need-slice-aggregate-monomials
+slice-aggregate-monomials c = search needs
 
-powers-requires-2 : tie.Need-powers-requires-2 Inv-loop μ-loop
-powers-requires-2 c κs = c .before .before .pre .1 .1
-
-loop-holds : tie.Need-loop-holds Inv-loop μ-loop
-loop-holds c =
-    let x = c .before .before .before .args in
-    (omega arith, rank-zero (x .q), refl, terms-start (termAt (x .q) (x .x) (x .y)) (x .q) (now (x .row)))
-
-divide-requires : tie.Need-divide-requires Inv-loop μ-loop
-divide-requires c κs = c .before .before .before .before .before .pre .0 .0
-
-array-read-times : tie.Need-array-read-times Inv-loop μ-loop
-array-read-times c =
-    let s = c .before .before .before .before .before .before .before in
-    omega (arith, whole-lt (s .args .q) (s .args .m) (c .before .before .before .loop .w) _ _ (s .pre .0 .0) (c .before .divide .ensures) (c .before .before .loop-test .taken) (s .pre .0 .1))
-
-array-read-times-2 : tie.Need-array-read-times-2 Inv-loop μ-loop
-array-read-times-2 c =
-    let s = c .before .before .before .before .before .before .before in
-    rest-lt (s .args .q) (s .args .m) (c .before .before .before .loop .w) _ _ (s .pre .0 .0) (c .before .divide .ensures) (c .before .before .loop-test .taken) (s .pre .0 .1)
-
-times-requires : tie.Need-times-requires Inv-loop μ-loop
-times-requires c κs =
-    let x = c .before .before .before .before .before .before .before .args in
-    (powers-below (x .q) (x .x) _ (c .before .before .before .before .before .powers .ensures) _, powers-below (x .q) (x .y) _ (c .before .before .before .before .powers2 .ensures) _)
-
-slice-write-row : tie.Need-slice-write-row Inv-loop μ-loop
-slice-write-row c =
-    let s = c .before .before .before .before .before .before .before .before in
-    let l = c .before .before .before .before .loop in
-    omega (arith, l .inv .2, s .pre .0 .2, rank-lt (s .args .q) (l .w) (l .n) _ _ (c .before .before .divide .ensures) (l .inv .1) (s .args .m) (c .before .before .before .loop-test .taken) (c .before .if1 .taken))
-
-add-n : tie.Need-add-n Inv-loop μ-loop
-add-n c = omega (arith, slice-write-row c)
-
-add-w : tie.Need-add-w Inv-loop μ-loop
-add-w c = omega arith
-
-loop-less : tie.Need-loop-less Inv-loop μ-loop
-loop-less c = omega arith
-
-loop-again : tie.Need-loop-again Inv-loop μ-loop
-loop-again c =
-    let s = c .before .before .before .before .before .before .before in
+monomials-requires : tie.Need-monomials-requires
+monomials-requires c κs =
+    let s = c .before .before .before .before in
     let x = s .args in
-    let l = c .before .before .before .loop in
-    let d = c .before .divide .ensures in
-    let wm = c .before .before .loop-test .taken in
-    ⊎-elim
-    (λ v.
-    let k : l .n < length (l .row) = omega (arith, l .inv .2, s .pre .0 .2, rank-lt (x .q) (l .w) (l .n) _ _ d (l .inv .1) (x .m) wm (v .0 .taken)) in (
-      omega arith,
-      v .3 ∙ rank-turn (x .q) (l .w) (l .n) _ _ d (l .inv .1) (v .0 .taken),
-      rw (v .2) (simp length-set (l .inv .2)),
-      rw (v .2, v .3) (terms-turn (termAt (x .q) (x .x) (x .y)) (x .q) (l .row) (l .w) (l .n) _ _ d (l .inv .3) _ k (v .0 .taken)
-          (v .1 .ensures ∙ term-value (x .q) (x .m) (l .w) _ _ (s .pre .0 .0) d wm (s .pre .0 .1) (x .x) (x .y) _ _ (c .before .before .before .before .before .powers .ensures) (c .before .before .before .before .powers2 .ensures))),
-    ))
-    (λ v. (
-      omega arith,
-      v .2 ∙ rank-skip (x .q) (l .w) (l .n) _ _ d (l .inv .1) (v .0 .left),
-      rw (v .1) (l .inv .2),
-      rw (v .1, v .2) (terms-skip (termAt (x .q) (x .x) (x .y)) (x .q) (l .row) (l .w) (l .n) _ _ d (l .inv .3) (v .0 .left)),
-    ))
-    (c .if1 .came)
+    let room = rows-room (x .q) (x .x) (x .y) (s .pre .0 .0) (x .m) (s .pre .0 .1) in
+    ((s .pre .0 .0, subst (λ (i : ℕ). x .q * (i + 1) ≤ 64) (sym (c .before .before .divide .ensures .0)) room), s .pre .1)
 
-slice-write-row-2 : tie.Need-slice-write-row-2 Inv-loop μ-loop
-slice-write-row-2 c =
-    let s = c .before .before .before .before .before in
-    let l = c .before .loop in
-    let e : l .w ≡ s .args .m + 1 = omega arith in
-    omega (arith, l .inv .1, l .inv .2, s .pre .0 .2, ap (rank (s .args .q)) (e ∙ add-one (s .args .m)))
+-- the part of the row that is lent
+prefix : (c : tie.After-gather-arg) → let x = c .before .before .before .before .before .before .before .before .args in length (take (x .k) (now (x .row))) ≡ x .k
+prefix c = let s = c .before .before .before .before .before .before .before .before in length-take-le (s .args .k) (now (s .args .row)) (omega (arith, s .pre .0 .2, s .pre .0 .3))
 
-same-length : tie.Need-same-length Inv-loop μ-loop
-same-length c = simp length-set (c .before .loop .inv .2)
+slice-aggregate-gather : tie.Need-slice-aggregate-gather
+slice-aggregate-gather c = search needs
 
-returns : tie.Need-returns Inv-loop μ-loop
+slice-relend-prefix-gather : tie.Need-slice-relend-prefix-gather
+slice-relend-prefix-gather c = search needs
+
+slice-aggregate-gather-2 : tie.Need-slice-aggregate-gather-2
+slice-aggregate-gather-2 c = sym (prefix c)
+
+gather-requires : tie.Need-gather-requires
+gather-requires c κs =
+    let s = c .before .before .before .before .before .before .before .before in (
+      s .pre .0 .0,
+      omega (arith, s .pre .0 .1, sizes (s .args .q) (s .pre .0 .0) .high, c .before .before .before .monomials .kept .1 .1 .1 .1 .0),
+      prefix c ∙ s .pre .0 .2,
+    )
+
+slice-write-row : tie.Need-slice-write-row
+slice-write-row c = search needs
+
+same-length : tie.Need-same-length
+same-length c = search needs
+
+returns : tie.Need-returns
 returns c =
-    let s = c .before .before .before .before .before in
+    let s = c .before .before .before .before .before .before .before .before .before .before .before in
     let x = s .args in
-    let l = c .before .loop in
-    let e : l .w ≡ x .m + 1 = omega arith in
-    equation-end (x .q) (x .m) (x .x) (x .y) (x .s) (l .row) (l .w) (l .n) (l .inv .3) e (l .inv .1) (omega (arith, l .inv .2, s .pre .0 .2))
+    let g = c .before .before .before .before .before .before .monomials in
+    equation-written (x .q) (x .x) (x .y) (s .pre .0 .0) (x .m) (x .s) (x .k) (g .last .1 .1 .1 .1 .0) (now (x .row)) _ (s .pre .0 .2) (omega (arith, s .pre .0 .2, s .pre .0 .3))
+    (subst (λ (i : ℕ). Blocks (x .q) (termAt (x .q) (x .x) (x .y)) (g .last .1 .1 .1 .1 .0) (i + 1)) (c .before .before .before .before .before .before .before .before .before .divide .ensures .0) (g .ensures))
+    (c .before .before .gather .ensures)
 
 pub write-equation-spec : {M : Type 1} → statement M
 write-equation-spec =
     tie.close
     (tie.spec
-    Inv-loop
-    μ-loop
-    powers-requires
-    powers-requires-2
-    loop-holds
     divide-requires
-    array-read-times
-    array-read-times-2
-    times-requires
-    slice-write-row
     add-n
-    add-w
-    loop-less
-    loop-again
-    slice-write-row-2
+    slice-aggregate-monomials
+    monomials-requires
+    slice-aggregate-gather
+    slice-relend-prefix-gather
+    slice-aggregate-gather-2
+    gather-requires
+    slice-write-row
     same-length
     returns)

@@ -32,7 +32,7 @@ use Rattle.code.specs.Answers.{answered}
 use Rattle.code.specs.Unencoded.{theMessage}
 use Rattle.code.specs.Recovered.{read, reading, told}
 use Rattle.code.specs.Readable.{WordOver, InterpolatedInY, InterpolatedInX, readOver}
-use Rattle.code.proofs.GridEntries.{length-scatter, length-gather, gather-scatter}
+use Rattle.code.proofs.GridEntries.{length-scatter, length-gather, gather-scatter, gather-number}
 use Rattle.code.proofs.GridLaw.{two-stages}
 use Rattle.code.proofs.Order.{within-scatter, within-message}
 use Rattle.code.proofs.Columns.{length-ys, word-at, word-length}
@@ -52,11 +52,10 @@ pub record GridOf (q : ℕ) (columns word grid : List ℕ) : Type 0 where
 
 -- the coefficients of a grid of symbols are symbols
 pub vector-gather : (q m b : ℕ) (grid : List ℕ) → Below b grid → Vector b (size q m) (gather q m grid)
-unfolding gather
 vector-gather q m b grid h =
     record {
       len = length-gather q m grid;
-      small = λ i l. rw (getD-map (λ w. getD grid (entryOf q w) 0) (weights q m) 0 0 i l) (h (entryOf q (getD (weights q m) i 0)));
+      small = λ i l. rw (gather-number q m grid i l) (h (entryOf q (getD (weights q m) i 0)));
     }
 
 module _ (q : ℕ) (columns word : List ℕ) (w : WordOver q columns word) where

@@ -11,32 +11,26 @@ fn ok_line(number: usize, message: &[u8], at: usize, out: &mut [u8]) -> usize
     requires { ⌜ (length (now message) ≡ 32) × (at + 66 ≤ length (now out)) ⌝ }
     ensures { λ r. ⌜ Typed (now (out .entry)) at (okLine number (now (message .entry))) r (now (out .exit)) × (r ≤ at + 66) ⌝ }
 {
-    let a = text::decimal(number, at, out);
-    let b = text::bytes(&[b' ', b'o', b'k', b' '], a, out);
-    let c = text::digits(message, b, out);
-    text::bytes(&[b'\n'], c, out)
+    let a = text::decimal_then(number, &[b' ', b'o', b'k', b' '], at, out);
+    let b = text::digits(message, a, out);
+    text::bytes(&[b'\n'], b, out)
 }
 
 fn no_line(number: usize, refusal: u8, second: u8, at: usize, out: &mut [u8]) -> usize
     requires { ⌜ at + 66 ≤ length (now out) ⌝ }
     ensures { λ r. ⌜ Typed (now (out .entry)) at (noLine number refusal second) r (now (out .exit)) × (r ≤ at + 66) ⌝ }
 {
-    let a = text::decimal(number, at, out);
-    let b = text::bytes(&[b' ', b'n', b'o', b' '], a, out);
-    let c = text::decimal(refusal as usize, b, out);
-    let d = text::bytes(&[b' '], c, out);
-    let e = text::decimal(second as usize, d, out);
-    text::bytes(&[b'\n'], e, out)
+    let a = text::decimal_then(number, &[b' ', b'n', b'o', b' '], at, out);
+    let b = text::decimal_then(refusal as usize, &[b' '], a, out);
+    text::decimal_then(second as usize, &[b'\n'], b, out)
 }
 
 fn short_line(number: usize, size: usize, at: usize, out: &mut [u8]) -> usize
     requires { ⌜ at + 66 ≤ length (now out) ⌝ }
     ensures { λ r. ⌜ Typed (now (out .entry)) at (shortLine number size) r (now (out .exit)) × (r ≤ at + 66) ⌝ }
 {
-    let a = text::decimal(number, at, out);
-    let b = text::bytes(&[b' ', b's', b'h', b'o', b'r', b't', b' '], a, out);
-    let c = text::decimal(size, b, out);
-    text::bytes(&[b'\n'], c, out)
+    let a = text::decimal_then(number, &[b' ', b's', b'h', b'o', b'r', b't', b' '], at, out);
+    text::decimal_then(size, &[b'\n'], a, out)
 }
 
 // The line of a record, written from `at` on; answers the place after it. 66 bytes hold any line.

@@ -1,6 +1,6 @@
 // Text in ASCII, written into a slice from a place on. Each function answers the place after its text.
 ghost use mathlib.Core.Path.{_≡_};
-ghost use mathlib.Core.List.{map};
+ghost use mathlib.Core.List.{_++_, map};
 ghost use Prim.Native.Nat.{_+_, _≤_};
 ghost use lib.ListN.{length};
 ghost use Rattle.lines.specs.Text.{Typed};
@@ -54,4 +54,13 @@ pub fn decimal(n: usize, at: usize, out: &mut [u8]) -> usize
     let end = decimal(n / 10, at, out);
     out[end] = 48 + (n % 10) as u8;
     end + 1
+}
+
+// A number and the text that follows it. No number takes more than 20 bytes.
+pub fn decimal_then(n: usize, text: &[u8], at: usize, out: &mut [u8]) -> usize
+    requires { ⌜ at + (20 + length (now text)) ≤ length (now out) ⌝ }
+    ensures { λ r. ⌜ Typed (now (out .entry)) at (Text·decimal n ++ now (text .entry)) r (now (out .exit)) × (r ≤ at + (20 + length (now (text .entry)))) ⌝ }
+{
+    let end = decimal(n, at, out);
+    bytes(text, end, out)
 }

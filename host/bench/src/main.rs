@@ -2,14 +2,17 @@
 //! one run on the same inputs at q = 4, m = 37. Checks first that both give
 //! the same answers.
 //!
-//! With an operation's name and a number of calls as arguments it runs the
-//! library alone, for a profiler.
+//! With `blocks` as argument it compares programs instead; with an operation's
+//! name and a number of calls it runs the library alone, for a profiler.
 
 mod baseline;
+mod blocks;
+mod blocks_baseline;
 mod profile;
 mod timing;
 
 use std::hint::black_box;
+use std::io;
 use std::process::ExitCode;
 
 use baseline::Baseline;
@@ -33,17 +36,39 @@ type Message = [u8; K];
 type Word = [u8; N];
 type LibraryCall = fn(u8, u8, &[u8], &mut [u8]) -> Result<(), Refusal>;
 
+const BASELINE_MODE: &str = "blocks-baseline";
+const USAGE: &str = "arguments, one of these:
+  none                times of the library's operations and of the baseline's
+  blocks [PROGRAM]    speed of the program `blocks` and of the baseline's
+  blocks-baseline     the baseline's `blocks`, from standard input to standard output
+  OPERATION CALLS     the library alone, for a profiler;
+                      the operation is encode, unencode or recover-COUNT, where COUNT symbols are missing";
+
 fn main() -> ExitCode {
     let arguments: Vec<String> = std::env::args().skip(1).collect();
-    match arguments.as_slice() {
-        [] => print_table(),
-        [operation, calls] => return profile::run(operation, calls),
-        _ => {
-            eprintln!("{}", profile::USAGE);
-            return ExitCode::FAILURE;
+    let arguments: Vec<&str> = arguments.iter().map(String::as_str).collect();
+    match run(&arguments) {
+        Ok(()) => ExitCode::SUCCESS,
+        Err(message) => {
+            eprintln!("{message}");
+            ExitCode::FAILURE
         }
     }
-    ExitCode::SUCCESS
+}
+
+fn run(arguments: &[&str]) -> Result<(), String> {
+    match arguments {
+        [] => {
+            print_table();
+            Ok(())
+        }
+        ["blocks"] => blocks::run(blocks::PROGRAM),
+        ["blocks", program] => blocks::run(program),
+        [BASELINE_MODE] => blocks_baseline::run(io::stdin().lock(), io::stdout().lock())
+            .map_err(|error| error.to_string()),
+        [operation, calls] => profile::run(operation, calls),
+        _ => Err(USAGE.to_string()),
+    }
 }
 
 fn print_table() {

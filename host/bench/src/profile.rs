@@ -1,16 +1,10 @@
 //! Runs one operation of the library again and again, for a profiler.
 
-use std::process::ExitCode;
+use crate::{broken_words, messages, word_of, Word, K, M, N, Q, USAGE};
 
-use crate::{broken_words, messages, word_of, Word, K, M, N, Q};
-
-pub const USAGE: &str = "arguments: none, or an operation and a number of calls;
-the operation is encode, unencode or recover-COUNT, where COUNT symbols are missing";
-
-pub fn run(operation: &str, calls: &str) -> ExitCode {
+pub fn run(operation: &str, calls: &str) -> Result<(), String> {
     let Ok(calls) = calls.parse::<usize>() else {
-        eprintln!("{USAGE}");
-        return ExitCode::FAILURE;
+        return Err(USAGE.to_string());
     };
     let words: Vec<Word> = messages().iter().map(word_of).collect();
     let missing = operation.strip_prefix("recover-").map(str::parse);
@@ -18,12 +12,9 @@ pub fn run(operation: &str, calls: &str) -> ExitCode {
         ("encode", _) => encode(calls),
         ("unencode", _) => unencode(&words, calls),
         (_, Some(Ok(missing))) if missing <= N => recover(&broken_words(&words, missing), calls),
-        _ => {
-            eprintln!("{USAGE}");
-            return ExitCode::FAILURE;
-        }
+        _ => return Err(USAGE.to_string()),
     }
-    ExitCode::SUCCESS
+    Ok(())
 }
 
 fn encode(calls: usize) {

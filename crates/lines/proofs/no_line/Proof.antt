@@ -1,138 +1,51 @@
 -- `no_line` meets its contract.
 -- Assumes nothing.
+use mathlib.Core.List.{append-assoc}
 use native.Mathlib.Omega.{arith}
+use borrow.Author.Needs.{needs}
 use Rattle.lines.specs.Line.{noLine}
 use Rattle.lines.proofs.Texts.{next}
-use Rattle.lines.proofs.Decimals.{length-decimal}
-use borrow.Author.Needs.{needs}
 use Rattle.lines.proofs.no_line.Statement.{statement}
 use Rattle.lines.proofs.no_line.Tie as tie
 
-decimal-requires : tie.Need-decimal-requires
-decimal-requires c κs =
-    omega (
-      arith,
-      length-decimal (c .before .before .args .number) (omega arith),
-    )
+slice-aggregate-decimal-then : tie.Need-slice-aggregate-decimal-then
+slice-aggregate-decimal-then c = search needs
 
-slice-aggregate-bytes : tie.Need-slice-aggregate-bytes
-slice-aggregate-bytes c = search needs
+decimal-then-requires : tie.Need-decimal-then-requires
+decimal-then-requires c κs = search needs
 
-bytes-requires : tie.Need-bytes-requires
-bytes-requires c κs =
-    omega (
-      arith,
-      length-decimal (c .before .before .before .before .before .before .before .args .number) (omega arith),
-      c .before .before .before .before .decimal .ensures .ends,
-      c .before .before .before .before .decimal .kept .1 .1 .0,
-    )
+slice-aggregate-decimal-then-2 : tie.Need-slice-aggregate-decimal-then-2
+slice-aggregate-decimal-then-2 c = search needs
 
-decimal-requires-2 : tie.Need-decimal-requires-2
-decimal-requires-2 c κs =
-    omega (
-      arith,
-      length-decimal (c .before .before .before .before .before .before .before .before .before .before .before .args .number) (omega arith),
-      length-decimal (c .before .before .before .before .before .before .before .before .before .before .before .args .refusal) (omega arith),
-      c .before .before .before .bytes .ensures .ends,
-      c .before .before .before .bytes .kept .1 .1 .0,
-      c .before .before .before .before .before .before .before .before .decimal .ensures .ends,
-      c .before .before .before .before .before .before .before .before .decimal .kept .1 .1 .0,
-    )
+decimal-then-requires-2 : tie.Need-decimal-then-requires-2
+decimal-then-requires-2 c κs = search needs
 
-slice-aggregate-bytes-2 : tie.Need-slice-aggregate-bytes-2
-slice-aggregate-bytes-2 c = search needs
+slice-aggregate-decimal-then-3 : tie.Need-slice-aggregate-decimal-then-3
+slice-aggregate-decimal-then-3 c = search needs
 
-bytes-requires-2 : tie.Need-bytes-requires-2
-bytes-requires-2 c κs =
-    omega (
-      arith,
-      length-decimal (c .before .before .before .before .before .before .before .before .before .before .before .before .before .before .before .before .args .number) (omega arith),
-      length-decimal (c .before .before .before .before .before .before .before .before .before .before .before .before .before .before .before .before .args .refusal) (omega arith),
-      c .before .before .before .before .decimal2 .ensures .ends,
-      c .before .before .before .before .decimal2 .kept .1 .1 .0,
-      c .before .before .before .before .before .before .before .before .bytes .ensures .ends,
-      c .before .before .before .before .before .before .before .before .bytes .kept .1 .1 .0,
-      c .before .before .before .before .before .before .before .before .before .before .before .before .before .decimal .ensures .ends,
-      c .before .before .before .before .before .before .before .before .before .before .before .before .before .decimal .kept .1 .1 .0,
-    )
-
-decimal-requires-3 : tie.Need-decimal-requires-3
-decimal-requires-3 c κs =
-    omega (
-      arith,
-      length-decimal (c .before .before .before .before .before .before .before .before .before .before .before .before .before .before .before .before .before .before .before .before .args .number) (omega arith),
-      length-decimal (c .before .before .before .before .before .before .before .before .before .before .before .before .before .before .before .before .before .before .before .before .args .refusal) (omega arith),
-      length-decimal (c .before .before .before .before .before .before .before .before .before .before .before .before .before .before .before .before .before .before .before .before .args .second) (omega arith),
-      c .before .before .before .bytes2 .ensures .ends,
-      c .before .before .before .bytes2 .kept .1 .1 .0,
-      c .before .before .before .before .before .before .before .before .decimal2 .ensures .ends,
-      c .before .before .before .before .before .before .before .before .decimal2 .kept .1 .1 .0,
-      c .before .before .before .before .before .before .before .before .before .before .before .before .bytes .ensures .ends,
-      c .before .before .before .before .before .before .before .before .before .before .before .before .bytes .kept .1 .1 .0,
-      c .before .before .before .before .before .before .before .before .before .before .before .before .before .before .before .before .before .decimal .ensures .ends,
-      c .before .before .before .before .before .before .before .before .before .before .before .before .before .before .before .before .before .decimal .kept .1 .1 .0,
-    )
-
-slice-aggregate-bytes-3 : tie.Need-slice-aggregate-bytes-3
-slice-aggregate-bytes-3 c = search needs
-
-bytes-requires-3 : tie.Need-bytes-requires-3
-bytes-requires-3 c κs =
-    omega (
-      arith,
-      length-decimal (c .before .before .before .before .before .before .before .before .before .before .before .before .before .before .before .before .before .before .before .before .before .before .before .before .before .args .number) (omega arith),
-      length-decimal (c .before .before .before .before .before .before .before .before .before .before .before .before .before .before .before .before .before .before .before .before .before .before .before .before .before .args .refusal) (omega arith),
-      length-decimal (c .before .before .before .before .before .before .before .before .before .before .before .before .before .before .before .before .before .before .before .before .before .before .before .before .before .args .second) (omega arith),
-      c .before .before .before .before .decimal3 .ensures .ends,
-      c .before .before .before .before .decimal3 .kept .1 .1 .0,
-      c .before .before .before .before .before .before .before .before .bytes2 .ensures .ends,
-      c .before .before .before .before .before .before .before .before .bytes2 .kept .1 .1 .0,
-      c .before .before .before .before .before .before .before .before .before .before .before .before .before .decimal2 .ensures .ends,
-      c .before .before .before .before .before .before .before .before .before .before .before .before .before .decimal2 .kept .1 .1 .0,
-      c .before .before .before .before .before .before .before .before .before .before .before .before .before .before .before .before .before .bytes .ensures .ends,
-      c .before .before .before .before .before .before .before .before .before .before .before .before .before .before .before .before .before .bytes .kept .1 .1 .0,
-      c .before .before .before .before .before .before .before .before .before .before .before .before .before .before .before .before .before .before .before .before .before .before .decimal .ensures .ends,
-      c .before .before .before .before .before .before .before .before .before .before .before .before .before .before .before .before .before .before .before .before .before .before .decimal .kept .1 .1 .0,
-    )
+decimal-then-requires-3 : tie.Need-decimal-then-requires-3
+decimal-then-requires-3 c κs = search needs
 
 same-length : tie.Need-same-length
 same-length c = search needs
 
 returns : tie.Need-returns
 unfolding noLine
-returns c = (
-  next (c .before .before .before .before .before .before .before .before .before .before .before .before .before .before .before .before .before .before .before .before .before .before .before .before .before .decimal .ensures) (next (c .before .before .before .before .before .before .before .before .before .before .before .before .before .before .before .before .before .before .before .before .bytes .ensures) (next (c .before .before .before .before .before .before .before .before .before .before .before .before .before .before .before .before .decimal2 .ensures) (next (c .before .before .before .before .before .before .before .before .before .before .before .bytes2 .ensures) (next (c .before .before .before .before .before .before .before .decimal3 .ensures) (c .before .before .bytes3 .ensures))))),
-  omega (
-    arith,
-    length-decimal (c .before .before .before .before .before .before .before .before .before .before .before .before .before .before .before .before .before .before .before .before .before .before .before .before .before .before .before .before .args .number) (omega arith),
-    length-decimal (c .before .before .before .before .before .before .before .before .before .before .before .before .before .before .before .before .before .before .before .before .before .before .before .before .before .before .before .before .args .refusal) (omega arith),
-    length-decimal (c .before .before .before .before .before .before .before .before .before .before .before .before .before .before .before .before .before .before .before .before .before .before .before .before .before .before .before .before .args .second) (omega arith),
-    c .before .before .before .before .before .before .before .decimal3 .ensures .ends,
-    c .before .before .before .before .before .before .before .decimal3 .kept .1 .1 .0,
-    c .before .before .before .before .before .before .before .before .before .before .before .bytes2 .ensures .ends,
-    c .before .before .before .before .before .before .before .before .before .before .before .bytes2 .kept .1 .1 .0,
-    c .before .before .before .before .before .before .before .before .before .before .before .before .before .before .before .before .decimal2 .ensures .ends,
-    c .before .before .before .before .before .before .before .before .before .before .before .before .before .before .before .before .decimal2 .kept .1 .1 .0,
-    c .before .before .before .before .before .before .before .before .before .before .before .before .before .before .before .before .before .before .before .before .bytes .ensures .ends,
-    c .before .before .before .before .before .before .before .before .before .before .before .before .before .before .before .before .before .before .before .before .bytes .kept .1 .1 .0,
-    c .before .before .before .before .before .before .before .before .before .before .before .before .before .before .before .before .before .before .before .before .before .before .before .before .before .decimal .ensures .ends,
-    c .before .before .before .before .before .before .before .before .before .before .before .before .before .before .before .before .before .before .before .before .before .before .before .before .before .decimal .kept .1 .1 .0,
-    c .before .before .bytes3 .ensures .ends,
-  ),
-)
+returns c =
+    let number = c .before .before .before .before .before .before .before .before .before .before .before .before .decimal-then .ensures in
+    let refusal = c .before .before .before .before .before .before .before .decimal-then2 .ensures in
+    let second = c .before .before .decimal-then3 .ensures in
+    (simp append-assoc at (next (number .0) (next (refusal .0) (second .0))), omega arith)
 
 pub no-line-spec : {M : Type 1} → statement M
 no-line-spec =
     tie.close
     (tie.spec
-    decimal-requires
-    slice-aggregate-bytes
-    bytes-requires
-    decimal-requires-2
-    slice-aggregate-bytes-2
-    bytes-requires-2
-    decimal-requires-3
-    slice-aggregate-bytes-3
-    bytes-requires-3
+    slice-aggregate-decimal-then
+    decimal-then-requires
+    slice-aggregate-decimal-then-2
+    decimal-then-requires-2
+    slice-aggregate-decimal-then-3
+    decimal-then-requires-3
     same-length
     returns)

@@ -1,92 +1,50 @@
 -- `ok_line` meets its contract.
 -- Assumes nothing.
+use mathlib.Core.List.{append-assoc}
+use native.Mathlib.Omega.{arith}
+use borrow.Author.Needs.{needs}
 use lib.ListN.{length-map}
 use Rattle.lines.specs.Text.{glyph}
-use native.Mathlib.Omega.{arith}
 use Rattle.lines.specs.Line.{okLine}
 use Rattle.lines.proofs.Texts.{next}
-use Rattle.lines.proofs.Decimals.{length-decimal}
-use borrow.Author.Needs.{needs}
 use Rattle.lines.proofs.ok_line.Statement.{statement}
 use Rattle.lines.proofs.ok_line.Tie as tie
 
-decimal-requires : tie.Need-decimal-requires
-decimal-requires c κs =
-    omega (
-      arith,
-      length-decimal (c .before .before .before .args .number) (omega arith),
-    )
+slice-aggregate-decimal-then : tie.Need-slice-aggregate-decimal-then
+slice-aggregate-decimal-then c = search needs
+
+decimal-then-requires : tie.Need-decimal-then-requires
+decimal-then-requires c κs = search needs
+
+digits-requires : tie.Need-digits-requires
+digits-requires c κs = search needs
 
 slice-aggregate-bytes : tie.Need-slice-aggregate-bytes
 slice-aggregate-bytes c = search needs
 
 bytes-requires : tie.Need-bytes-requires
-bytes-requires c κs =
-    omega (
-      arith,
-      length-decimal (c .before .before .before .before .before .before .before .before .args .number) (omega arith),
-      c .before .before .before .before .decimal .ensures .ends,
-      c .before .before .before .before .decimal .kept .1 .1 .0,
-    )
-
-digits-requires : tie.Need-digits-requires
-digits-requires c κs =
-    omega (
-      arith,
-      length-decimal (c .before .before .before .before .before .before .before .before .before .before .before .before .args .number) (omega arith),
-      c .before .before .before .bytes .ensures .ends,
-      c .before .before .before .bytes .kept .1 .1 .0,
-      c .before .before .before .before .before .before .before .before .decimal .ensures .ends,
-      c .before .before .before .before .before .before .before .before .decimal .kept .1 .1 .0,
-    )
-
-slice-aggregate-bytes-2 : tie.Need-slice-aggregate-bytes-2
-slice-aggregate-bytes-2 c = search needs
-
-bytes-requires-2 : tie.Need-bytes-requires-2
-bytes-requires-2 c κs =
-    omega (
-      arith,
-      length-decimal (c .before .before .before .before .before .before .before .before .before .before .before .before .before .before .before .before .before .args .number) (omega arith),
-      length-map (c .before .before .before .before .before .before .before .before .before .before .before .before .before .before .before .before .before .args .message .now) glyph,
-      c .before .before .before .before .digits .ensures .ends,
-      c .before .before .before .before .digits .kept .1 .1 .0,
-      c .before .before .before .before .before .before .before .before .bytes .ensures .ends,
-      c .before .before .before .before .before .before .before .before .bytes .kept .1 .1 .0,
-      c .before .before .before .before .before .before .before .before .before .before .before .before .before .decimal .ensures .ends,
-      c .before .before .before .before .before .before .before .before .before .before .before .before .before .decimal .kept .1 .1 .0,
-    )
+bytes-requires c κs = omega (arith, length-map (c .before .before .before .before .before .before .before .before .before .before .before .before .before .args .message .now) glyph)
 
 same-length : tie.Need-same-length
 same-length c = search needs
 
 returns : tie.Need-returns
 unfolding okLine
-returns c = (
-  next (c .before .before .before .before .before .before .before .before .before .before .before .before .before .before .before .before .decimal .ensures) (next (c .before .before .before .before .before .before .before .before .before .before .before .bytes .ensures) (next (c .before .before .before .before .before .before .before .digits .ensures) (c .before .before .bytes2 .ensures))),
-  omega (
-    arith,
-    length-decimal (c .before .before .before .before .before .before .before .before .before .before .before .before .before .before .before .before .before .before .before .before .args .number) (omega arith),
-    length-map (c .before .before .before .before .before .before .before .before .before .before .before .before .before .before .before .before .before .before .before .before .args .message .now) glyph,
-    c .before .before .before .before .before .before .before .digits .ensures .ends,
-    c .before .before .before .before .before .before .before .digits .kept .1 .1 .0,
-    c .before .before .before .before .before .before .before .before .before .before .before .bytes .ensures .ends,
-    c .before .before .before .before .before .before .before .before .before .before .before .bytes .kept .1 .1 .0,
-    c .before .before .before .before .before .before .before .before .before .before .before .before .before .before .before .before .decimal .ensures .ends,
-    c .before .before .before .before .before .before .before .before .before .before .before .before .before .before .before .before .decimal .kept .1 .1 .0,
-    c .before .before .bytes2 .ensures .ends,
-  ),
-)
+returns c =
+    let message = c .before .before .before .before .before .before .before .before .before .before .before .before .before .before .before .before .args .message .now in
+    let number = c .before .before .before .before .before .before .before .before .before .before .before .decimal-then .ensures in
+    let digits = c .before .before .before .before .before .before .before .digits .ensures in
+    let end = c .before .before .bytes .ensures in
+    (simp append-assoc at (next (number .0) (next digits end)), omega (arith, length-map message glyph))
 
 pub ok-line-spec : {M : Type 1} → statement M
 ok-line-spec =
     tie.close
     (tie.spec
-    decimal-requires
+    slice-aggregate-decimal-then
+    decimal-then-requires
+    digits-requires
     slice-aggregate-bytes
     bytes-requires
-    digits-requires
-    slice-aggregate-bytes-2
-    bytes-requires-2
     same-length
     returns)

@@ -13,7 +13,7 @@ use denote.Enum.Declared.{tagOf}
 use Rattle.field.specs.Outcomes.{number, packed}
 use Rattle.field.specs.declared.outcome.Outcome.{Outcome}
 use Rattle.field.specs.declared.outcome.Outcome.the-variants.{Done}
-use Rattle.field.proofs.Outcomes.{refusals, not-done}
+use Rattle.field.proofs.Outcomes.{refusals, not-done, done-or-not, row-refused}
 use Rattle.field.proofs.outcome.Outcome.{the-type}
 use Rattle.code.specs.Checks.{orderChecks, sliceChecks}
 use Rattle.code.specs.Answers.{Answer, answered, unlessRefused, Packed}
@@ -29,13 +29,9 @@ refused checked o slice answer e n = ap (λ (x : Outcome). unlessRefused x slice
 pub not-refused : (checked : Outcome) (slice : List ℕ) (answer : Answer) → checked ≡ Done → unlessRefused checked slice answer ≡ answer
 not-refused checked slice answer e = ap (λ (x : Outcome). unlessRefused x slice answer) e
 
-done-or-not : (o : Outcome) → o ≡ Done → eqb (number o) 0 ≡ false → ⊥
-done-or-not o e n = let f : _≡_ {A = Bool} true false = sym (ap (λ (x : Outcome). eqb (number x) 0) e) ∙ n in let z : _≡_ {A = ℕ} 0 1 = cc in omega arith
-
 -- a refusal by the checks 1 and 2 is the call's
 pub order-refused : (q m : ℕ) (o : Outcome) → o ≡ orderChecks q m Done → Refused o → (rest : Outcome) → o ≡ orderChecks q m rest
-order-refused q m o e r rest =
-    ⊎-elim (λ d. absurd (done-or-not o (d .0) (not-done o r))) (λ d. sym (d .1)) (order-follows q m o rest (sym e))
+order-refused q m o e r rest = row-refused (orderChecks q m) (order-follows q m) o e rest r
 
 -- what the checks refuse is the entry's answer
 pub entry-refused : (checked o : Outcome) (slice : List ℕ) (answer : Answer) → o ≡ checked → Refused o → unlessRefused checked slice answer ≡ answered o slice

@@ -17,7 +17,7 @@ use Rattle.field.specs.Outcomes.{number, refuse}
 use Rattle.field.specs.declared.outcome.Outcome.{Outcome}
 use Rattle.field.specs.declared.outcome.Outcome.the-variants.{Done, BadCurve, BadOrder, BadLength, BadValue, BadRoom}
 use Rattle.field.proofs.Curves.{curve-true, curve-of-true}
-use Rattle.field.proofs.Outcomes.{passed}
+use Rattle.field.proofs.Outcomes.{passed, Follows, none-follow, refuse-follows}
 use Rattle.poly.proofs.Bools.{true-or-false}
 use Rattle.code.specs.Terms.{size}
 use Rattle.code.specs.Checks.{orderChecks, badValue, firstBad, valueCheck, sliceChecks, callChecks}
@@ -151,29 +151,20 @@ call-done gaps decodes q m input room e =
     let w = order-rest q m _ e in
     (w .0, w .1, slices-done gaps (q * q) (cond decodes (q * q * q) (size q m)) input (cond decodes (size q m) (q * q * q)) room (w .2))
 
--- what follows a row of checks that comes out Done is what the call answers; a refusal of the row is the call's
-abbrev Follows : (Outcome → Outcome) → Type 0
-Follows row = (o rest : Outcome) → row Done ≡ o → ((o ≡ Done) × (row rest ≡ rest)) ⊎ ((eqb (number o) 0 ≡ false) × (row rest ≡ o))
-
-refuse-follows : (t : Bool) (r : Outcome) (row : Outcome → Outcome) → eqb (number r) 0 ≡ false → Follows row → Follows (λ rest. refuse t r (row rest))
-refuse-follows true r row n f o rest e = inr (ap (λ (x : Outcome). eqb (number x) 0) (sym e) ∙ n, e)
-refuse-follows false r row n f o rest e = f o rest e
-
-last : (t : Bool) (r : Outcome) → eqb (number r) 0 ≡ false → Follows (refuse t r)
-last true r n o rest e = inr (ap (λ (x : Outcome). eqb (number x) 0) (sym e) ∙ n, e)
-last false r n o rest e = inl (sym e, refl)
+-- the rows as such: a refusal of theirs is the call's
 
 pub order-follows : (q m : ℕ) → Follows (orderChecks q m)
 unfolding orderChecks
 order-follows q m =
-    refuse-follows (not (isCurve q)) BadCurve (refuse (leb (q * q * q) m) BadOrder) refl (last (leb (q * q * q) m) BadOrder refl)
+    refuse-follows (not (isCurve q)) BadCurve (refuse (leb (q * q * q) m) BadOrder) refl
+    (refuse-follows (leb (q * q * q) m) BadOrder (λ rest. rest) refl none-follow)
 
 pub slices-follow : (gaps : Bool) (Q takes : ℕ) (input : List ℕ) (writes room : ℕ) → Follows (sliceChecks gaps Q takes input writes room)
 unfolding sliceChecks
 slices-follow gaps Q takes input writes room =
     refuse-follows (not (eqb (length input) takes)) BadLength (λ rest. valueCheck gaps Q input (refuse (not (eqb room writes)) BadRoom rest)) refl
     (refuse-follows (ltb (firstBad (badValue gaps Q) input) (length input)) (BadValue (firstBad (badValue gaps Q) input)) (refuse (not (eqb room writes)) BadRoom) refl
-    (last (not (eqb room writes)) BadRoom refl))
+    (refuse-follows (not (eqb room writes)) BadRoom (λ rest. rest) refl none-follow))
 
 -- how the tests of the code decide 3, 4 and 5; w is what its search found
 module _ (gaps : Bool) (Q takes : ℕ) (input : List ℕ) (writes room : ℕ) (rest : Outcome) where

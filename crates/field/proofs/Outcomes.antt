@@ -2,15 +2,16 @@
 -- Assumes nothing.
 use mathlib.Core.Bool.{Bool, true, false, cond}
 use mathlib.Core.List.{List, [], _∷_}
-use mathlib.Core.Logic.{_↔_}
-use mathlib.Core.Path.{_≡_, refl, sym, _∙_}
+use mathlib.Core.Logic.{_↔_, _⊎_, inl, inr, ⊎-elim}
+use mathlib.Core.Path.{_≡_, refl, sym, ap, _∙_}
 use Prim.Native.Nat.{ℕ}
+use native.Mathlib.Omega.{arith}
 use lib.Dec.{eqb}
 use types.Run.{OneOf, miss}
 use denote.Enum.Declared.{tagOf}
 use Rattle.field.specs.Outcomes.{number, second, Says, refuse}
 use Rattle.field.specs.declared.outcome.Outcome.{Outcome}
-use Rattle.field.specs.declared.outcome.Outcome.the-variants.{Done, BadCurve, BadOrder, BadLength, BadValue, BadRoom, BadPlace, BadSymbol, Clash, NoMessage, Several}
+use Rattle.field.specs.declared.outcome.Outcome.the-variants.{Done, BadCurve, BadOrder, BadLength, BadValue, BadRoom, BadPlace, BadSymbol, Clash, NoMessage, Several, InverseOfZero}
 use Rattle.field.proofs.outcome.Outcome.{the-type}
 
 -- a check that comes out Done did not apply
@@ -22,7 +23,7 @@ passed false o r n e = (refl, e)
 outcomeOf : ℕ → ℕ → Outcome
 outcomeOf n s =
     cond (eqb n 0) Done (cond (eqb n 1) BadCurve (cond (eqb n 2) BadOrder (cond (eqb n 3) BadLength (cond (eqb n 4) (BadValue s)
-    (cond (eqb n 5) BadRoom (cond (eqb n 6) BadPlace (cond (eqb n 7) BadSymbol (cond (eqb n 8) Clash (cond (eqb n 9) NoMessage (Several s))))))))))
+    (cond (eqb n 5) BadRoom (cond (eqb n 6) BadPlace (cond (eqb n 7) BadSymbol (cond (eqb n 8) Clash (cond (eqb n 9) NoMessage (cond (eqb n 10) (Several s) InverseOfZero))))))))))
 
 outcome-of : (o : Outcome) → outcomeOf (number o) (second o) ≡ o
 unfolding outcomeOf
@@ -37,13 +38,14 @@ outcome-of BadSymbol = refl
 outcome-of Clash = refl
 outcome-of NoMessage = refl
 outcome-of (Several n) = refl
+outcome-of InverseOfZero = refl
 
 pub says : (o p : Outcome) → Says o (number p) (second p) ↔ (o ≡ p)
 says o p = (λ h. sym (outcome-of o) ∙ rw (h .0, h .1) (outcome-of p), λ e. rw e (refl, refl))
 
 -- the variants other than Done, by their tags: what the arm of the others is told
 abbrev pub refusals : List ℕ
-refusals = 1 ∷ 2 ∷ 3 ∷ 4 ∷ 5 ∷ 6 ∷ 7 ∷ 8 ∷ 9 ∷ 10 ∷ []
+refusals = 1 ∷ 2 ∷ 3 ∷ 4 ∷ 5 ∷ 6 ∷ 7 ∷ 8 ∷ 9 ∷ 10 ∷ 11 ∷ []
 
 pub not-done : (o : Outcome) → OneOf refusals (tagOf the-type o) → eqb (number o) 0 ≡ false
 not-done Done k = absurd (miss refusals 0 tt k)
@@ -57,3 +59,26 @@ not-done BadSymbol k = refl
 not-done Clash k = refl
 not-done NoMessage k = refl
 not-done (Several n) k = refl
+not-done InverseOfZero k = refl
+
+-- ---- rows of checks: what follows a row that comes out Done is what the call answers; a refusal of the row is the call's
+
+abbrev pub Follows : (Outcome → Outcome) → Type 0
+Follows row = (o rest : Outcome) → row Done ≡ o → ((o ≡ Done) × (row rest ≡ rest)) ⊎ ((eqb (number o) 0 ≡ false) × (row rest ≡ o))
+
+pub none-follow : Follows (λ rest. rest)
+none-follow o rest e = inl (sym e, refl)
+
+pub refuse-follows : (t : Bool) (r : Outcome) (row : Outcome → Outcome) → eqb (number r) 0 ≡ false → Follows row → Follows (λ rest. refuse t r (row rest))
+refuse-follows true r row n f o rest e = inr (ap (λ (x : Outcome). eqb (number x) 0) (sym e) ∙ n, e)
+refuse-follows false r row n f o rest e = f o rest e
+
+pub done-or-not : (o : Outcome) → o ≡ Done → eqb (number o) 0 ≡ false → ⊥
+done-or-not o e n = let f : _≡_ {A = Bool} true false = sym (ap (λ (x : Outcome). eqb (number x) 0) e) ∙ n in let z : _≡_ {A = ℕ} 0 1 = cc in omega arith
+
+module _ (row : Outcome → Outcome) (f : Follows row) (o : Outcome) (e : o ≡ row Done) (rest : Outcome) where
+  pub row-refused : OneOf refusals (tagOf the-type o) → o ≡ row rest
+  row-refused r = ⊎-elim (λ d. absurd (done-or-not o (d .0) (not-done o r))) (λ d. sym (d .1)) (f o rest (sym e))
+
+  pub row-passed : o ≡ Done → row rest ≡ rest
+  row-passed d = ⊎-elim (λ h. h .1) (λ h. absurd (done-or-not o d (h .0))) (f o rest (sym e))

@@ -9,26 +9,27 @@ use Rattle.field.specs.Curve.{isCurve, bitsOf}
 use Rattle.field.specs.Outcomes.{number, refuse}
 use Rattle.field.specs.declared.entry.Answer.{Answer}
 use Rattle.field.specs.declared.outcome.Outcome.{Outcome}
-use Rattle.field.specs.declared.outcome.Outcome.the-variants.{Done, BadCurve, BadValue}
+use Rattle.field.specs.declared.outcome.Outcome.the-variants.{Done, BadCurve, BadValue, InverseOfZero}
 
 -- check 4 on the operands; the head of the list has the index i
-abbrev pub operandsOutcome : ℕ → ℕ → List ℕ → Outcome
-operandsOutcome size i [] = Done
-operandsOutcome size i (x ∷ xs) = refuse (leb size x) (BadValue i) (operandsOutcome size (suc i) xs)
+abbrev pub operandChecks : ℕ → ℕ → List ℕ → Outcome → Outcome
+operandChecks size i [] rest = rest
+operandChecks size i (x ∷ xs) rest = refuse (leb size x) (BadValue i) (operandChecks size (suc i) xs rest)
 
--- checks 1 and 4
-abbrev pub fieldOutcome : ℕ → List ℕ → Outcome
-fieldOutcome q operands = refuse (not (isCurve q)) BadCurve (operandsOutcome (q * q) 0 operands)
+-- checks 1 and 4, and what is to follow where neither applies
+abbrev pub fieldChecks : ℕ → List ℕ → Outcome → Outcome
+fieldChecks q operands rest = refuse (not (isCurve q)) BadCurve (operandChecks (q * q) 0 operands rest)
 
 -- "A refused field operation gives the symbol 0."
 abbrev pub answer : Outcome → ℕ → Answer
 answer o s = record { symbol = cond (eqb (number o) 0) s 0; outcome = o }
 
 abbrev pub sumAnswer : ℕ → ℕ → ℕ → Answer
-sumAnswer q a b = answer (fieldOutcome q (a ∷ b ∷ [])) (plus a b)
+sumAnswer q a b = answer (fieldChecks q (a ∷ b ∷ []) Done) (plus a b)
 
 abbrev pub productAnswer : ℕ → ℕ → ℕ → Answer
-productAnswer q a b = answer (fieldOutcome q (a ∷ b ∷ [])) (times (bitsOf q) a b)
+productAnswer q a b = answer (fieldChecks q (a ∷ b ∷ []) Done) (times (bitsOf q) a b)
 
+-- "The inverse now refuses 0 .. 13: inverse of 0, after 4."
 abbrev pub inverseAnswer : ℕ → ℕ → Answer
-inverseAnswer q a = answer (fieldOutcome q (a ∷ [])) (inverse (bitsOf q) a)
+inverseAnswer q a = answer (fieldChecks q (a ∷ []) (refuse (eqb a 0) InverseOfZero Done)) (inverse (bitsOf q) a)

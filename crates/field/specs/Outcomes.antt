@@ -3,7 +3,7 @@ use mathlib.Core.Bool.{Bool, true, false}
 use mathlib.Core.Path.{_≡_}
 use Prim.Native.Nat.{ℕ, _+_, _*_}
 use Rattle.field.specs.declared.outcome.Outcome.{Outcome}
-use Rattle.field.specs.declared.outcome.Outcome.the-variants.{Done, BadCurve, BadOrder, BadLength, BadValue, BadRoom, BadPlace, BadSymbol, Clash, NoMessage, Several}
+use Rattle.field.specs.declared.outcome.Outcome.the-variants.{Done, BadCurve, BadOrder, BadLength, BadValue, BadRoom, BadPlace, BadSymbol, Clash, NoMessage, Several, InverseOfZero}
 
 -- the refusal number, and 0 for "a call that isn't refused"
 abbrev pub number : Outcome → ℕ
@@ -18,6 +18,7 @@ number BadSymbol = 7
 number Clash = 8
 number NoMessage = 9
 number (Several r) = 10
+number InverseOfZero = 13
 
 -- "a second number, 0 unless stated"
 abbrev pub second : Outcome → ℕ
@@ -32,6 +33,7 @@ second BadSymbol = 0
 second Clash = 0
 second NoMessage = 0
 second (Several r) = r
+second InverseOfZero = 0
 
 -- an answer with these two numbers
 abbrev pub Says : Outcome → ℕ → ℕ → Type 0

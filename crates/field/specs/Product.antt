@@ -26,7 +26,7 @@ unfoldable pub lastBelow : ℕ → (ℕ → Bool) → ℕ
 lastBelow zero p = 0
 lastBelow (suc n) p = elim (p n) [ true ↦ n | false ↦ lastBelow n p ]
 
--- the symbol by which a has the product 1; "the inverse of 0 is given as 0"
+-- the symbol by which a has the product 1; 0 where there is none, which is so of 0 alone
 unfoldable pub inverse : ℕ → ℕ → ℕ
 unfolding lastBelow times
 inverse e a = lastBelow (2 ^ e) (λ b. eqb (times e a b) 1)

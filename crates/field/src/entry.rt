@@ -1,7 +1,8 @@
 // The public entries of the field: sum, product and inverse of any two bytes, at any curve number.
 ghost use mathlib.Core.List.{[], _∷_};
 ghost use mathlib.Core.Path.{_≡_};
-ghost use Rattle.field.specs.Entries.{fieldOutcome, sumAnswer, productAnswer, inverseAnswer};
+ghost use Rattle.field.specs.declared.outcome.Outcome.the-variants.{Done};
+ghost use Rattle.field.specs.Entries.{fieldChecks, sumAnswer, productAnswer, inverseAnswer};
 use crate::curve::Curve;
 use crate::curve::Named;
 use crate::outcome::Outcome;
@@ -14,7 +15,7 @@ pub struct Answer {
 
 // Whether q is a curve's number and a and b are its symbols; a and b are the operands 0 and 1.
 fn check(q: u8, a: u8, b: u8) -> Outcome
-    ensures { λ r. ⌜ r ≡ fieldOutcome q (a ∷ b ∷ []) ⌝ }
+    ensures { λ r. ⌜ r ≡ fieldChecks q (a ∷ b ∷ []) Done ⌝ }
 {
     let Named::Is(curve) = Curve::of(q) else {
         return Outcome::BadCurve;
@@ -72,7 +73,7 @@ pub fn inverse(q: u8, a: u8) -> Answer
         if a == 0 {
             return Answer {
                 symbol: 0,
-                outcome: o,
+                outcome: Outcome::InverseOfZero,
             };
         }
         let s = symbol::inverse(q, a);

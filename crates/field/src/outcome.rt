@@ -17,6 +17,8 @@ pub enum Outcome {
     NoMessage,
     // the r of Q^r messages that fit
     Several(u8),
+    // request T-06: number 13
+    InverseOfZero,
 }
 
 // The refusal number, 0 for Done.
@@ -35,6 +37,7 @@ pub fn number(o: Outcome) -> u8
         Outcome::Clash => 8,
         Outcome::NoMessage => 9,
         Outcome::Several(_) => 10,
+        Outcome::InverseOfZero => 13,
     }
 }
 
@@ -54,6 +57,7 @@ pub fn second(o: Outcome) -> u8
         Outcome::Clash => 0,
         Outcome::NoMessage => 0,
         Outcome::Several(r) => r,
+        Outcome::InverseOfZero => 0,
     }
 }
 

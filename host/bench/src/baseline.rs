@@ -40,7 +40,7 @@ impl Baseline {
             products: std::array::from_fn(|a| {
                 std::array::from_fn(|b| field.product(symbol(a), symbol(b)))
             }),
-            inverses: std::array::from_fn(|a| field.inverse(symbol(a))),
+            inverses: std::array::from_fn(|a| field.inverse(symbol(a)).unwrap_or(0)),
             equations: std::array::from_fn(|p| std::array::from_fn(|i| generator[i][p])),
             generator,
             chosen_places: [0; K],

@@ -55,12 +55,9 @@ impl Field {
         (0..exponent).fold(1, |product, _| self.product(product, base))
     }
 
-    /// Found by trying every element. No product with 0 is 1, and the
-    /// paper gives 0 as the inverse of 0.
-    pub fn inverse(self, a: u8) -> u8 {
-        (1..self.size())
-            .find(|&b| self.product(a, b) == 1)
-            .unwrap_or(0)
+    /// Found by trying every element. No product with 0 is 1, so 0 has none.
+    pub fn inverse(self, a: u8) -> Option<u8> {
+        (1..self.size()).find(|&b| self.product(a, b) == 1)
     }
 
     /// The sum of a * z^bit over the bits of b, not yet reduced.
@@ -99,7 +96,7 @@ pub fn multiply(q: u8, a: u8, b: u8) -> (Outcome, u8) {
 
 /// The inverse of a symbol; the symbol is 0 if the call is refused.
 pub fn invert(q: u8, a: u8) -> (Outcome, u8) {
-    answer(field_for(q, &[a]).map(|field| field.inverse(a)))
+    answer(field_for(q, &[a]).and_then(|field| field.inverse(a).ok_or(Outcome::INVERSE_OF_ZERO)))
 }
 
 fn field_for(q: u8, operands: &[u8]) -> Result<Field, Outcome> {
@@ -151,9 +148,10 @@ mod tests {
     }
 
     #[test]
-    fn the_inverse_of_0_is_given_as_0() {
-        assert_eq!(invert(2, 0), accepted(0));
-        assert_eq!(invert(4, 0), accepted(0));
+    fn the_inverse_of_0_is_refused() {
+        assert_eq!(invert(2, 0), (Outcome::INVERSE_OF_ZERO, 0));
+        assert_eq!(invert(4, 0), (Outcome::INVERSE_OF_ZERO, 0));
+        assert_eq!(invert(3, 0), (Outcome::UNKNOWN_CURVE, 0));
     }
 
     #[test]

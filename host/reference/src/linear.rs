@@ -54,7 +54,8 @@ fn reduce(field: Field, equations: &mut [Equation], unknowns: usize) -> usize {
 /// Makes the pivot's coefficient 1 and that of every other equation 0.
 fn clear_column(field: Field, equations: &mut [Equation], pivot_row: usize, column: usize) {
     let lead = equations[pivot_row].coefficients[column];
-    let pivot = scaled(field, &equations[pivot_row], field.inverse(lead));
+    let inverse = field.inverse(lead).expect("a pivot isn't 0");
+    let pivot = scaled(field, &equations[pivot_row], inverse);
     for (row, equation) in equations.iter_mut().enumerate() {
         if row == pivot_row {
             *equation = pivot.clone();

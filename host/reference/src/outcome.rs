@@ -17,6 +17,7 @@ impl Outcome {
     pub const SYMBOL_TOO_HIGH: Outcome = Outcome::plain(7);
     pub const PLACE_HOLDS_ANOTHER: Outcome = Outcome::plain(8);
     pub const NO_MESSAGE_FITS: Outcome = Outcome::plain(9);
+    pub const INVERSE_OF_ZERO: Outcome = Outcome::plain(13);
 
     const fn plain(number: u8) -> Outcome {
         Outcome { number, second: 0 }

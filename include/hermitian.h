@@ -29,8 +29,8 @@
  *
  * Threads. There is no state outside a call: no globals, no heap, no setup. Any
  * number of threads may call at once, each with an output buffer of its own;
- * they may share an input. As built now, a call takes less than 12 KiB of stack
- * (measured and not proved: most is 8384 bytes, to recover a whole word); from
+ * they may share an input. As built now, a call takes less than 8 KiB of stack
+ * (measured and not proved: most is 5401 bytes, to recover a whole word); from
  * the platform it needs memcpy and memset.
  *
  * Linking. `rt staticlib code` writes target/staticlib/libcode.a (x86-64).

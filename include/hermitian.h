@@ -50,8 +50,8 @@ extern "C" {
 
 /*
  * Why a call was refused. The checks run in this order, and the first that
- * applies decides. 6, 7 and 8 belong to receiving sessions, which C doesn't
- * call; the entries below never give them.
+ * applies decides. 6 and 7 belong to receiving sessions, which C doesn't call;
+ * the entries below never give them. 8 no longer occurs.
  */
 enum hermitian_refusal {
     HERMITIAN_DONE = 0,
@@ -70,8 +70,6 @@ enum hermitian_refusal {
     HERMITIAN_PLACE_TOO_HIGH = 6,
     /* Sessions: the symbol of an arrival is no symbol of the curve. */
     HERMITIAN_ARRIVAL_NOT_A_SYMBOL = 7,
-    /* Sessions: the place already holds a different symbol. */
-    HERMITIAN_PLACE_HOLDS_ANOTHER = 8,
     /* No message has these symbols in its word: at least one of them is wrong. */
     HERMITIAN_NO_MESSAGE_FITS = 9,
     /* Too much is missing: two or more messages fit. Second number: r, where

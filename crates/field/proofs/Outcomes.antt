@@ -11,7 +11,7 @@ use types.Run.{OneOf, miss}
 use denote.Enum.Declared.{tagOf}
 use Rattle.field.specs.Outcomes.{number, second, Says, refuse}
 use Rattle.field.specs.declared.outcome.Outcome.{Outcome}
-use Rattle.field.specs.declared.outcome.Outcome.the-variants.{Done, BadCurve, BadOrder, BadLength, BadValue, BadRoom, BadPlace, BadSymbol, Clash, NoMessage, Several, InverseOfZero}
+use Rattle.field.specs.declared.outcome.Outcome.the-variants.{Done, BadCurve, BadOrder, BadLength, BadValue, BadRoom, BadPlace, BadSymbol, NoMessage, Several, InverseOfZero}
 use Rattle.field.proofs.outcome.Outcome.{the-type}
 
 -- a check that comes out Done did not apply
@@ -23,7 +23,7 @@ passed false o r n e = (refl, e)
 outcomeOf : ℕ → ℕ → Outcome
 outcomeOf n s =
     cond (eqb n 0) Done (cond (eqb n 1) BadCurve (cond (eqb n 2) BadOrder (cond (eqb n 3) BadLength (cond (eqb n 4) (BadValue s)
-    (cond (eqb n 5) BadRoom (cond (eqb n 6) BadPlace (cond (eqb n 7) BadSymbol (cond (eqb n 8) Clash (cond (eqb n 9) NoMessage (cond (eqb n 10) (Several s) InverseOfZero))))))))))
+    (cond (eqb n 5) BadRoom (cond (eqb n 6) BadPlace (cond (eqb n 7) BadSymbol (cond (eqb n 9) NoMessage (cond (eqb n 10) (Several s) InverseOfZero)))))))))
 
 outcome-of : (o : Outcome) → outcomeOf (number o) (second o) ≡ o
 unfolding outcomeOf
@@ -35,7 +35,6 @@ outcome-of (BadValue i) = refl
 outcome-of BadRoom = refl
 outcome-of BadPlace = refl
 outcome-of BadSymbol = refl
-outcome-of Clash = refl
 outcome-of NoMessage = refl
 outcome-of (Several n) = refl
 outcome-of InverseOfZero = refl
@@ -45,7 +44,7 @@ says o p = (λ h. sym (outcome-of o) ∙ rw (h .0, h .1) (outcome-of p), λ e. r
 
 -- the variants other than Done, by their tags: what the arm of the others is told
 abbrev pub refusals : List ℕ
-refusals = 1 ∷ 2 ∷ 3 ∷ 4 ∷ 5 ∷ 6 ∷ 7 ∷ 8 ∷ 9 ∷ 10 ∷ 11 ∷ []
+refusals = 1 ∷ 2 ∷ 3 ∷ 4 ∷ 5 ∷ 6 ∷ 7 ∷ 8 ∷ 9 ∷ 10 ∷ []
 
 pub not-done : (o : Outcome) → OneOf refusals (tagOf the-type o) → eqb (number o) 0 ≡ false
 not-done Done k = absurd (miss refusals 0 tt k)
@@ -56,7 +55,6 @@ not-done (BadValue i) k = refl
 not-done BadRoom k = refl
 not-done BadPlace k = refl
 not-done BadSymbol k = refl
-not-done Clash k = refl
 not-done NoMessage k = refl
 not-done (Several n) k = refl
 not-done InverseOfZero k = refl

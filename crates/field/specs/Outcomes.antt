@@ -3,9 +3,9 @@ use mathlib.Core.Bool.{Bool, true, false}
 use mathlib.Core.Path.{_≡_}
 use Prim.Native.Nat.{ℕ, _+_, _*_}
 use Rattle.field.specs.declared.outcome.Outcome.{Outcome}
-use Rattle.field.specs.declared.outcome.Outcome.the-variants.{Done, BadCurve, BadOrder, BadLength, BadValue, BadRoom, BadPlace, BadSymbol, Clash, NoMessage, Several, InverseOfZero}
+use Rattle.field.specs.declared.outcome.Outcome.the-variants.{Done, BadCurve, BadOrder, BadLength, BadValue, BadRoom, BadPlace, BadSymbol, NoMessage, Several, InverseOfZero}
 
--- the refusal number, and 0 for "a call that isn't refused"
+-- the refusal number, and 0 for "a call that isn't refused"; "Refusal 8 no longer occurs" (T-01)
 abbrev pub number : Outcome → ℕ
 number Done = 0
 number BadCurve = 1
@@ -15,7 +15,6 @@ number (BadValue index) = 4
 number BadRoom = 5
 number BadPlace = 6
 number BadSymbol = 7
-number Clash = 8
 number NoMessage = 9
 number (Several r) = 10
 number InverseOfZero = 13
@@ -30,7 +29,6 @@ second (BadValue index) = index
 second BadRoom = 0
 second BadPlace = 0
 second BadSymbol = 0
-second Clash = 0
 second NoMessage = 0
 second (Several r) = r
 second InverseOfZero = 0

@@ -2,7 +2,8 @@
 ghost use mathlib.Core.Path.{_≡_};
 ghost use Rattle.field.specs.Outcomes.{number, second, packed};
 
-// Done, and a case for each refusal of "Why a call is turned down", in its order.
+// Done, and a case for each refusal of "Why a call is turned down", in its order. No case has the number 8: "Refusal 8 no longer
+// occurs" (T-01).
 pub enum Outcome {
     Done,
     BadCurve,
@@ -13,7 +14,6 @@ pub enum Outcome {
     BadRoom,
     BadPlace,
     BadSymbol,
-    Clash,
     NoMessage,
     // the r of Q^r messages that fit
     Several(u8),
@@ -34,7 +34,6 @@ pub fn number(o: Outcome) -> u8
         Outcome::BadRoom => 5,
         Outcome::BadPlace => 6,
         Outcome::BadSymbol => 7,
-        Outcome::Clash => 8,
         Outcome::NoMessage => 9,
         Outcome::Several(_) => 10,
         Outcome::InverseOfZero => 13,
@@ -54,7 +53,6 @@ pub fn second(o: Outcome) -> u8
         Outcome::BadRoom => 0,
         Outcome::BadPlace => 0,
         Outcome::BadSymbol => 0,
-        Outcome::Clash => 0,
         Outcome::NoMessage => 0,
         Outcome::Several(r) => r,
         Outcome::InverseOfZero => 0,

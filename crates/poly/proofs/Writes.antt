@@ -8,9 +8,10 @@ use native.Mathlib.Nat.{le-antisymm, eq-or-lt-of-le, not-suc-le-zero, le-of-suc-
 use native.Mathlib.Numerals.{add-one}
 use native.Mathlib.Decide.{decLt}
 use native.Mathlib.Omega.{arith}
-use lib.ListN.{length, getD, take, set, length-set, replicate, length-replicate, getD-replicate}
+use lib.ListN.{length, getD, take, set, length-set, length-map, replicate, length-replicate, getD-replicate}
 use lib.Seq.{ext-getD, getD-set-same, getD-set-other, take-suc, take-suc-set, take-all}
 use Rattle.poly.specs.Ranges.{Below, writes}
+use Rattle.poly.proofs.Lists.{getD-map}
 
 module _ (l : List ℕ) (f : ℕ → ℕ) where
   pub length-writes : (n : ℕ) → length (writes l n f) ≡ length l
@@ -61,6 +62,15 @@ writes-same l c =
     (λ t b.
     let k : t < length l = omega (arith, length-writes l (λ _. c) (length l)) in
     writes-in l (λ _. c) (length l) t k (omega arith) ∙ sym (getD-replicate (length l) t c 0 k))
+
+-- each entry is given the value of f at it
+pub writes-map : (f : ℕ → ℕ) (l : List ℕ) → writes l (length l) (λ j. f (getD l j 0)) ≡ map f l
+writes-map f l =
+    let g : ℕ → ℕ = λ j. f (getD l j 0) in
+    ext-getD 0 (writes l (length l) g) (map f l) (length-writes l g (length l) ∙ sym (length-map l f))
+    (λ t b.
+    let k : t < length l = omega (arith, length-writes l g (length l)) in
+    writes-in l g (length l) t k (omega arith) ∙ sym (getD-map f l 0 0 t k))
 
 -- a list that is filled from the front with the values of f at the entries of another
 module _ (f : ℕ → ℕ) (places out : List ℕ) (t : ℕ) (same : length out ≡ length places) (done : take t out ≡ map f (take t places)) where

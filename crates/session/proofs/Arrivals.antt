@@ -1,16 +1,15 @@
 -- How opening, an arrival and asking go, check by check.
 -- Assumes nothing.
 use mathlib.Core.Bool.{true, false}
-use mathlib.Core.List.{List}
+use mathlib.Core.List.{List, map, _++_}
 use mathlib.Core.Logic.{inl, inr}
-use mathlib.Core.Path.{_≡_, refl, ap, _∙_}
+use mathlib.Core.Path.{_≡_, refl, sym, ap, _∙_}
 use Prim.Native.Nat.{ℕ, _*_, _≤_, _<_}
-use native.Mathlib.Decide.{ℕ-discrete}
 use native.Mathlib.Omega.{arith}
-use borrow.Author.Tests.{lt-leb, le-leb, lt-ltb, le-ltb, eq-eqb, ne-eqb, leb-false}
+use borrow.Author.Tests.{lt-leb, le-leb, lt-ltb, le-ltb, leb-false}
 use lib.Dec.{eqb, leb, ltb}
-use lib.ListN.{length, getD, take}
-use lib.Seq.{length-take-le, set-getD}
+use lib.ListN.{length, getD, take, drop, length-map, length-append}
+use lib.Seq.{length-take-le, take-at}
 use Rattle.field.specs.Curve.{isCurve, IsCurve}
 use Rattle.field.specs.Outcomes.{number, refuse}
 use Rattle.field.specs.declared.outcome.Outcome.{Outcome}
@@ -24,9 +23,8 @@ use Rattle.code.specs.Recovered.{recovered}
 use Rattle.code.proofs.Checks.{order-rest, order-curve, order-high, order-passed}
 use Rattle.code.proofs.Recoveries.{recovered-refused}
 use Rattle.session.specs.declared.Session.{Session}
-use Rattle.session.specs.declared.Kept.{Kept}
 use Rattle.session.specs.Opened.{fresh, opened}
-use Rattle.session.specs.Arrived.{heard, kept, arrivalChecks, turn, with, arrived}
+use Rattle.session.specs.Arrived.{cleared, standing, kept, arrivalChecks, turn, with, arrived}
 use Rattle.session.specs.Asked.{asked}
 
 -- ---- opening
@@ -44,6 +42,21 @@ module _ (q m : ℕ) (o : Outcome) (is : o ≡ orderChecks q m Done) where
   unfolding opened
   opened-refused e = rw (← is, e)
 
+-- ---- the places that were lent, as the first n of a list, to be cleared
+
+module _ (n : ℕ) (l back : List ℕ) (room : n ≤ length l) (is : back ≡ map cleared (take n l)) where
+  length-back : length back ≡ n
+  length-back = ap length is ∙ length-map (take n l) cleared ∙ length-take-le n l room
+
+  pub cleared-room : n ≤ length (back ++ drop n l)
+  cleared-room = omega (arith, length-append back (drop n l), length-back)
+
+  pub cleared-take : take n (back ++ drop n l) ≡ map cleared (take n l)
+  cleared-take = take-at back (drop n l) n length-back ∙ is
+
+  pub cleared-long : n ≡ length (take n (back ++ drop n l))
+  cleared-long = sym (length-take-le n (back ++ drop n l) cleared-room)
+
 -- ---- the checks of an arrival
 
 module _ (s : Session) (place symbol : ℕ) where
@@ -52,7 +65,7 @@ module _ (s : Session) (place symbol : ℕ) where
   last n Q = refuse (leb n place) BadPlace (refuse (leb Q symbol) BadSymbol Done)
 
   abbrev values : Outcome
-  values = valueCheck true (s .q * s .q) (heard s) (last (s .q * s .q * s .q) (s .q * s .q))
+  values = valueCheck true (s .q * s .q) (standing s) (last (s .q * s .q * s .q) (s .q * s .q))
 
   pub checks-curve : isCurve (s .q) ≡ false → arrivalChecks s place symbol ≡ BadCurve
   unfolding arrivalChecks
@@ -69,14 +82,14 @@ module _ (s : Session) (place symbol : ℕ) where
     pub is-Q : Q ≡ s .q * s .q
     pub order : s .m < n
     pub room : n ≤ length (s .places)
-    pub is-w : w ≡ firstBad (badValue true Q) (take n (s .places))
+    pub is-w : w ≡ firstBad (badValue true Q) (map cleared (take n (s .places)))
 
   module _ (n Q w : ℕ) (h : Searched n Q w) where
     past-order : arrivalChecks s place symbol ≡ refuse (ltb w n) (BadValue w) (last n Q)
     unfolding arrivalChecks
     past-order =
         order-passed (s .q) (s .m) values (h .is-curve) (omega (arith, h .order, h .is-n))
-        ∙ rw (← h .is-n, ← h .is-Q, ← h .is-w, length-take-le n (s .places) (h .room))
+        ∙ rw (← h .is-n, ← h .is-Q, ← h .is-w, length-map (take n (s .places)) cleared, length-take-le n (s .places) (h .room))
 
     pub checks-value : w < n → arrivalChecks s place symbol ≡ BadValue w
     checks-value a = past-order ∙ rw (lt-ltb w n a)
@@ -96,9 +109,9 @@ module _ (s : Session) (place symbol : ℕ) where
   checked-place e =
       let n = s .q * s .q * s .q in
       let Q = s .q * s .q in
-      let w = firstBad (badValue true Q) (heard s) in
+      let w = firstBad (badValue true Q) (standing s) in
       let a = order-rest (s .q) (s .m) values e in
-      let b = passed (ltb w (length (heard s))) (last n Q) (BadValue w) (λ p. omega (arith, ap number p)) (a .2) in
+      let b = passed (ltb w (length (standing s))) (last n Q) (BadValue w) (λ p. omega (arith, ap number p)) (a .2) in
       let d = passed (leb n place) (refuse (leb Q symbol) BadSymbol Done) BadPlace (λ p. omega (arith, ap number p)) (b .1) in
       (a .0, leb-false n place (d .0))
 
@@ -108,27 +121,18 @@ module _ (s : Session) (place symbol : ℕ) where
   unfolding arrived
   arrived-refused o e n = rw (e, n)
 
-  pub arrived-kept : arrivalChecks s place symbol ≡ Done → (here : Kept) → here ≡ kept (getD (s .places) place 0) symbol
-      → arrived s place symbol ≡ turn (with s place (here .holds)) (here .outcome)
+  pub arrived-kept : (o : Outcome) → o ≡ arrivalChecks s place symbol → o ≡ Done
+      → (x : ℕ) → x ≡ kept (getD (s .places) place 0) symbol → arrived s place symbol ≡ turn (with s place x) o
   unfolding arrived
-  arrived-kept e here f = rw (e, f)
-
--- a place that refuses the symbol holds what it held
-refused-holds : (held symbol : ℕ) → eqb (number (kept held symbol .outcome)) 0 ≡ false → kept held symbol .holds ≡ held
-refused-holds held symbol e =
-    elim (ℕ-discrete held 255) [
-      | yes h ↦ let never = rw (eq-eqb held 255 h) at e in let z : _≡_ {A = ℕ} 0 1 = cc in absurd (omega arith)
-      | no d ↦ rw (ne-eqb held 255 d)
-    ]
+  arrived-kept o is e x f = rw (← is, e, f)
 
 -- "or as it came": whatever the session, a refused arrival changes nothing
 pub arrived-as-it-came : (s : Session) (place symbol : ℕ) → eqb (number (arrived s place symbol .outcome)) 0 ≡ false
     → arrived s place symbol .session ≡ s
 unfolding arrived
 arrived-as-it-came s place symbol e =
-    let held : ℕ = getD (s .places) place 0 in
     elim (true-or-false (eqb (number (arrivalChecks s place symbol)) 0)) [
-      | inl t ↦ rw (t, refused-holds held symbol (rw t at e), set-getD (s .places) place 0)
+      | inl t ↦ let never = rw t at e in let z : _≡_ {A = ℕ} 0 1 = cc in absurd (omega arith)
       | inr t ↦ rw t
     ]
 
@@ -138,9 +142,9 @@ module _ (s : Session) (slice : List ℕ) where
   pub asked-curve : isCurve (s .q) ≡ false → asked s slice ≡ answered BadCurve slice
   unfolding asked
   asked-curve e =
-      recovered-refused (s .q) (s .m) (heard s) slice BadCurve
-      (order-curve (s .q) (s .m) (sliceChecks true (s .q * s .q) (s .q * s .q * s .q) (heard s) (size (s .q) (s .m)) (length slice) Done) e) refl
+      recovered-refused (s .q) (s .m) (standing s) slice BadCurve
+      (order-curve (s .q) (s .m) (sliceChecks true (s .q * s .q) (s .q * s .q * s .q) (standing s) (size (s .q) (s .m)) (length slice) Done) e) refl
 
-  pub asked-recovered : (n : ℕ) → n ≡ s .q * s .q * s .q → asked s slice ≡ recovered (s .q) (s .m) (take n (s .places)) slice
+  pub asked-recovered : (n : ℕ) → n ≡ s .q * s .q * s .q → asked s slice ≡ recovered (s .q) (s .m) (map cleared (take n (s .places))) slice
   unfolding asked
   asked-recovered n e = rw e

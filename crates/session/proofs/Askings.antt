@@ -18,38 +18,38 @@ use Rattle.code.proofs.Recoveries.{readingOf, recovered-refused, recovered-told
 use Rattle.session.specs.declared.Session.{Session}
 use Rattle.session.specs.Asked.{asked}
 use Rattle.session.specs.Slate.{Slate}
-use Rattle.session.proofs.Steps.{stored, none-bad, Mirrors}
+use Rattle.session.proofs.Steps.{seen, none-bad, Mirrors, sees}
 
 module _ (q m : ℕ) (curve : IsCurve q) (order : m < q * q * q)
     (places : List ℕ) (slate : Slate) (h : Mirrors q places slate) (slice : List ℕ) where
   abbrev now : Session
   now = record { q = q; m = m; places = places }
 
-  is-recovered : asked now slice ≡ recovered q m (map stored slate) slice
+  is-recovered : asked now slice ≡ recovered q m (map seen slate) slice
   unfolding asked
-  is-recovered = rw (h .same)
+  is-recovered = rw (sees q curve places slate h)
 
-  long : length (map stored slate) ≡ q * q * q
-  long = length-map slate stored ∙ h .len
+  long : length (map seen slate) ≡ q * q * q
+  long = length-map slate seen ∙ h .len
 
-  searched : q * q * q ≡ firstBad (badValue true (q * q)) (map stored slate)
+  searched : q * q * q ≡ firstBad (badValue true (q * q)) (map seen slate)
   searched = sym (none-bad (q * q) slate (h .small) ∙ h .len)
 
   -- what the checks 3, 4 and 5 come to
   abbrev slices : Outcome
-  slices = sliceChecks true (q * q) (q * q * q) (map stored slate) (size q m) (length slice) Done
+  slices = sliceChecks true (q * q) (q * q * q) (map seen slate) (size q m) (length slice) Done
 
-  checks : recoverChecks q m (map stored slate) slice ≡ slices
+  checks : recoverChecks q m (map seen slate) slice ≡ slices
   checks = order-passed q m slices curve order
 
-  pub asks-told : length slice ≡ size q m → asked now slice ≡ told (readingOf q m (map stored slate)) slice
+  pub asks-told : length slice ≡ size q m → asked now slice ≡ told (readingOf q m (map seen slate)) slice
   asks-told e =
       is-recovered
-      ∙ recovered-told q m (map stored slate) slice
-      (checks ∙ slices-passed true (q * q) (q * q * q) (map stored slate) (size q m) (length slice) Done long (q * q * q) searched (omega arith) e)
+      ∙ recovered-told q m (map seen slate) slice
+      (checks ∙ slices-passed true (q * q) (q * q * q) (map seen slate) (size q m) (length slice) Done long (q * q * q) searched (omega arith) e)
 
   pub asks-room : (length slice ≡ size q m → ⊥) → asked now slice ≡ answered BadRoom slice
   asks-room n =
       is-recovered
-      ∙ recovered-refused q m (map stored slate) slice BadRoom
-      (checks ∙ slices-room true (q * q) (q * q * q) (map stored slate) (size q m) (length slice) Done long (q * q * q) searched (omega arith) n) refl
+      ∙ recovered-refused q m (map seen slate) slice BadRoom
+      (checks ∙ slices-room true (q * q) (q * q * q) (map seen slate) (size q m) (length slice) Done long (q * q * q) searched (omega arith) n) refl

@@ -23,7 +23,7 @@ use Rattle.session.specs.Slate.{Slate, blankSlate, after}
 use Rattle.session.specs.Claim.{Event, Arrival, Asking, slateFrom, slateAfter, sessionFrom, sessionAfter, Claim}
 use Rattle.session.specs.Replayed.{decoded, replayed}
 use Rattle.session.proofs.Replays.{replayed-asked}
-use Rattle.session.proofs.Steps.{stored, Match, opened-curve, opens, step}
+use Rattle.session.proofs.Steps.{seen, Match, opened-curve, opens, step}
 use Rattle.session.proofs.SlateReadings.{none-fits, one-fits, several-fit, never-two}
 use Rattle.session.proofs.Askings.{asks-told, asks-room}
 
@@ -49,7 +49,7 @@ module _ (q m : ℕ) (accepted : Says (opened q m .outcome) 0 0) where
   order : m < q * q * q
   order = opened-curve q m done .1
 
-  along : (events : List Event) → Match q m (sessionAfter q m events) (slateAfter q events)
+  pub along : (events : List Event) → Match q m (sessionAfter q m events) (slateAfter q events)
   along events = follow q m curve order (opened q m .session) (blankSlate q) (opens q m done) events
 
   module _ (events : List Event) where
@@ -57,7 +57,7 @@ module _ (q m : ℕ) (accepted : Says (opened q m .outcome) 0 0) where
     slate = slateAfter q events
 
     abbrev heard : Reading
-    heard = readingOf q m (map stored slate)
+    heard = readingOf q m (map seen slate)
 
     asks : (slice : List ℕ) → length slice ≡ size q m → asked (sessionAfter q m events) slice ≡ told heard slice
     asks slice e = let h = along events in rw (h .is) (asks-told q m curve order (h .places) slate (h .mirrors) slice e)

@@ -5,4 +5,5 @@ pub mod Held
 pub mod SlateReadings
 pub mod Askings
 pub mod Demand
+pub mod Orders
 pub mod Values

@@ -1,8 +1,7 @@
--- The messages that fit a slate are those that fit what is stored of it, and the reading of that says how many they are.
+-- The messages that fit a slate are those that fit what recovery sees of it, and the reading of that says how many they are.
 -- Assumes nothing.
 use mathlib.Core.List.{List, map}
 use mathlib.Core.Logic.{_↔_, _⊎_, inl, inr}
-use mathlib.Core.Option.{Option, none, some}
 use mathlib.Core.Path.{_≡_, refl, sym, ap, _∙_}
 use Prim.Native.Nat.{ℕ, _+_, _*_, _^_, _≤_, _<_}
 use native.Mathlib.Omega.{arith}
@@ -21,9 +20,9 @@ use Rattle.poly.proofs.Elimination.{PowerOrNone}
 use Rattle.code.proofs.Readings.{Fitting, fitting-list, length-fitting, reads-nothing, reads-message, reads-several}
 use Rattle.code.proofs.Recoveries.{readingOf}
 use Rattle.code.proofs.Facts.{Broken, facts}
-use Rattle.session.specs.Slate.{Slate, held}
+use Rattle.session.specs.Slate.{Place, blank, symbol, struck, Slate, held}
 use Rattle.session.specs.Claim.{FitsSlate}
-use Rattle.session.proofs.Steps.{stored, Small}
+use Rattle.session.proofs.Steps.{seen, Small}
 use Rattle.session.proofs.Held.{place-lt, heldFrom, length-held, of-mem-held, nodup-held}
 
 module _ (q m : ℕ) (curve : IsCurve q) (slate : Slate) (len : length slate ≡ q * q * q) (small : Small (q * q) slate) where
@@ -31,10 +30,10 @@ module _ (q m : ℕ) (curve : IsCurve q) (slate : Slate) (len : length slate ≡
   word = wordOf q (columnsOf q) m
 
   abbrev broken : List ℕ
-  broken = map stored slate
+  broken = map seen slate
 
-  at-place : (p : ℕ) → p < length slate → (o : Option ℕ) → getD slate p none ≡ o → getD broken p 0 ≡ stored o
-  at-place p l o e = getD-map stored slate none 0 p l ∙ ap stored e
+  at-place : (p : ℕ) → p < length slate → (o : Place) → getD slate p blank ≡ o → getD broken p 0 ≡ seen o
+  at-place p l o e = getD-map seen slate blank 0 p l ∙ ap seen e
 
   fits-iff : (v : List ℕ) → Fitting (q * q) (size q m) word broken v ↔ FitsSlate q m slate v
   fits-iff v = (
@@ -42,16 +41,17 @@ module _ (q m : ℕ) (curve : IsCurve q) (slate : Slate) (len : length slate ≡
       symbols = h .vector;
       agree = λ p s e.
           let l = place-lt slate p s e in
-          let here : getD broken p 0 ≡ s = at-place p l (some s) e in
-          h .fits .at p (omega (arith, length-map slate stored)) (λ z. omega (arith, small p s e, sizes q curve .symbols)) ∙ here;
+          let here : getD broken p 0 ≡ s = at-place p l (symbol s) e in
+          h .fits .at p (omega (arith, length-map slate seen)) (λ z. omega (arith, small p s e, sizes q curve .symbols)) ∙ here;
     },
-    λ h. record { vector = h .symbols; fits = record { at = λ p l n. go h p (omega (arith, length-map slate stored)) n (getD slate p none) refl } },
+    λ h. record { vector = h .symbols; fits = record { at = λ p l n. go h p (omega (arith, length-map slate seen)) n (getD slate p blank) refl } },
   )
     where
-      go : FitsSlate q m slate v → (p : ℕ) → p < length slate → (getD broken p 0 ≡ 255 → ⊥) → (o : Option ℕ) → getD slate p none ≡ o
+      go : FitsSlate q m slate v → (p : ℕ) → p < length slate → (getD broken p 0 ≡ 255 → ⊥) → (o : Place) → getD slate p blank ≡ o
           → getD (word v) p 0 ≡ getD broken p 0
-      go h p l n none e = absurd (n (at-place p l none e))
-      go h p l n (some s) e = h .agree p s e ∙ sym (at-place p l (some s) e)
+      go h p l n blank e = absurd (n (at-place p l blank e))
+      go h p l n struck e = absurd (n (at-place p l struck e))
+      go h p l n (symbol s) e = h .agree p s e ∙ sym (at-place p l (symbol s) e)
 
   fit-list : ListOf (FitsSlate q m slate) (fitting (q * q) (size q m) word broken)
   fit-list =
@@ -59,11 +59,12 @@ module _ (q m : ℕ) (curve : IsCurve q) (slate : Slate) (len : length slate ≡
       (fitting-list (q * q) (size q m) word broken)
 
   is-broken : Broken q broken
-  is-broken = record { len = length-map slate stored ∙ len; value = λ p l. go p (omega arith) (getD slate p none) refl }
+  is-broken = record { len = length-map slate seen ∙ len; value = λ p l. go p (omega arith) (getD slate p blank) refl }
     where
-      go : (p : ℕ) → p < length slate → (o : Option ℕ) → getD slate p none ≡ o → (getD broken p 0 ≡ 255) ⊎ (getD broken p 0 < q * q)
-      go p l none e = inl (at-place p l none e)
-      go p l (some s) e = inr (rw (at-place p l (some s) e) (small p s e))
+      go : (p : ℕ) → p < length slate → (o : Place) → getD slate p blank ≡ o → (getD broken p 0 ≡ 255) ⊎ (getD broken p 0 < q * q)
+      go p l blank e = inl (at-place p l blank e)
+      go p l struck e = inl (at-place p l struck e)
+      go p l (symbol s) e = inr (rw (at-place p l (symbol s) e) (small p s e))
 
   powers : PowerOrNone (q * q) (length (fitting (q * q) (size q m) word broken))
   powers = rw (length-fitting (q * q) (size q m) word broken) (facts q m curve .power broken is-broken)

@@ -1,22 +1,21 @@
--- A session and its slate go together: the first n stored places are those of the slate, with 255 for a blank. Each arrival keeps it so,
--- and is answered Done exactly when the slate takes it.
+-- A session and its slate go together: the first n stored places are those of the slate, with 255 for a blank and 254 for a struck one.
+-- Each arrival keeps it so, and is answered Done exactly when the slate takes it.
 -- Assumes nothing.
-use mathlib.Core.Bool.{Bool, true, false, not}
+use mathlib.Core.Bool.{Bool, true, false, cond}
 use mathlib.Core.List.{List, [], _∷_, map}
 use mathlib.Core.Logic.{_↔_}
-use mathlib.Core.Option.{Option, none, some}
-use mathlib.Core.Path.{_≡_, refl, sym, ap, _∙_}
+use mathlib.Core.Path.{_≡_, refl, sym, ap, ap₂, _∙_}
 use Prim.Native.Nat.{ℕ, zero, suc, _*_, _≤_, _<_}
 use native.Mathlib.Decide.{ℕ-discrete, decLt}
 use native.Mathlib.Omega.{arith}
 use borrow.Author.Tests.{lt-ltb, le-ltb, ne-eqb}
 use lib.Dec.{T, eqb}
-use lib.ListN.{length, getD, take, set, replicate, length-set, length-replicate}
-use lib.Seq.{getD-take, take-set-lt, getD-set-same, getD-set-other}
+use lib.ListN.{length, getD, take, drop, set, replicate, length-set, length-replicate}
+use lib.Seq.{getD-take, take-set-lt, drop-set-lt, getD-set-same, getD-set-other}
 use Rattle.field.specs.Curve.{IsCurve}
-use Rattle.field.specs.Outcomes.{number, refuse}
+use Rattle.field.specs.Outcomes.{number}
 use Rattle.field.specs.declared.outcome.Outcome.{Outcome}
-use Rattle.field.specs.declared.outcome.Outcome.the-variants.{Done, BadPlace, BadSymbol, Clash}
+use Rattle.field.specs.declared.outcome.Outcome.the-variants.{Done, BadPlace, BadSymbol}
 use Rattle.field.proofs.Curves.{sizes}
 use Rattle.poly.proofs.Lists.{getD-map, map-set}
 use Rattle.code.specs.Checks.{orderChecks, badValue, firstBad}
@@ -24,75 +23,102 @@ use Rattle.code.proofs.Checks.{order-done, good-symbol, good-gap}
 use Rattle.session.specs.declared.Session.{Session}
 use Rattle.session.specs.declared.Turn.{Turn}
 use Rattle.session.specs.Opened.{opened}
-use Rattle.session.specs.Arrived.{kept, arrivalChecks, turn, with, arrived}
-use Rattle.session.specs.Slate.{Slate, blankSlate, marked, within, takes, after}
+use Rattle.session.specs.Arrived.{cleared, kept, arrivalChecks, turn, with, arrived}
+use Rattle.session.specs.Slate.{Place, blank, symbol, struck, Slate, blankSlate, marked, within, takes, after}
 use Rattle.session.proofs.Arrivals.{opened-outcome, opened-done, Searched, checks-place, checks-symbol, checks-done, arrived-refused, arrived-kept}
 
 -- ---- one place
 
--- what a place of the slate is, stored
-abbrev pub stored : Option ℕ → ℕ
-stored none = 255
-stored (some s) = s
+-- what a place of the slate is, stored, and what the checks and recovery see of it
+abbrev pub stored : Place → ℕ
+stored blank = 255
+stored (symbol s) = s
+stored struck = 254
 
-refuse-iff : (t : Bool) → (refuse (not t) Clash Done ≡ Done) ↔ T t
-refuse-iff true = (λ e. tt, λ t. refl)
-refuse-iff false = (λ e. absurd (omega (arith, ap number e)), λ t. absurd t)
+abbrev pub seen : Place → ℕ
+seen blank = 255
+seen (symbol s) = s
+seen struck = 255
 
-module _ (Q : ℕ) (gap : Q ≤ 255) (s : ℕ) where
+module _ (Q : ℕ) (apart : Q ≤ 254) where
   -- what the place holds is a symbol
-  abbrev Symbol : Option ℕ → Type 0
-  Symbol o = (t : ℕ) → o ≡ some t → t < Q
+  abbrev Symbol : Place → Type 0
+  Symbol o = (t : ℕ) → o ≡ symbol t → t < Q
 
-  -- the session keeps there what the slate holds, and accepts what the slate takes
-  kept-holds : (o : Option ℕ) → Symbol o → kept (stored o) s .holds ≡ stored (marked o s .holds)
-  kept-holds none small = refl
-  kept-holds (some t) small = rw (ne-eqb t 255 (λ e. omega (arith, small t refl)))
+  cleared-stored : (o : Place) → Symbol o → cleared (stored o) ≡ seen o
+  cleared-stored blank small = refl
+  cleared-stored (symbol t) small = rw (ne-eqb t 254 (λ e. omega (arith, small t refl)))
+  cleared-stored struck small = refl
 
-  kept-done : (o : Option ℕ) → Symbol o → (kept (stored o) s .outcome ≡ Done) ↔ T (marked o s .taken)
-  kept-done none small = (λ e. tt, λ t. refl)
-  kept-done (some t) small = rw (ne-eqb t 255 (λ e. omega (arith, small t refl))) (refuse-iff (eqb t s))
+  module _ (s : ℕ) (k : s < Q) where
+    -- the session keeps there what the slate holds
+    kept-stored : (o : Place) → Symbol o → kept (stored o) s ≡ stored (marked o s)
+    kept-stored blank small = refl
+    kept-stored (symbol t) small = rw (ne-eqb t 255 (λ e. omega (arith, small t refl))) (go (eqb t s))
+      where
+        go : (b : Bool) → cond b t 254 ≡ stored (cond b (symbol t) struck)
+        go true = refl
+        go false = refl
+    kept-stored struck small = rw (ne-eqb 254 s (λ e. omega (arith, k)))
 
-  marked-symbol : (o : Option ℕ) → Symbol o → s < Q → Symbol (marked o s .holds)
-  marked-symbol none small l t e = let same : s ≡ t = cc in omega arith
-  marked-symbol (some u) small l t e = small t e
+    marked-symbol : (o : Place) → Symbol o → Symbol (marked o s)
+    marked-symbol blank small t e = let same : s ≡ t = cc in omega arith
+    marked-symbol (symbol u) small t e = go (eqb u s) e
+      where
+        go : (b : Bool) → cond b (symbol u) struck ≡ symbol t → t < Q
+        go true e = small t e
+        go false e = let z : _≡_ {A = ℕ} 0 1 = cc in absurd (omega arith)
+    marked-symbol struck small t e = let z : _≡_ {A = ℕ} 0 1 = cc in absurd (omega arith)
 
 -- ---- all places
 
 -- every symbol of the slate is below Q
 abbrev pub Small : ℕ → Slate → Type 0
-Small Q slate = (p s : ℕ) → getD slate p none ≡ some s → s < Q
+Small Q slate = (p s : ℕ) → getD slate p blank ≡ symbol s → s < Q
 
-small-set : (Q : ℕ) (slate : Slate) (p : ℕ) (o : Option ℕ) → p < length slate → ((t : ℕ) → o ≡ some t → t < Q) → Small Q slate
+small-set : (Q : ℕ) (slate : Slate) (p : ℕ) (o : Place) → p < length slate → ((t : ℕ) → o ≡ symbol t → t < Q) → Small Q slate
     → Small Q (set slate p o)
 small-set Q slate p o l k h i s e =
     elim (ℕ-discrete i p) [
-      | yes a ↦ k s (sym (getD-set-same slate p o none l) ∙ (rw a at e))
-      | no d ↦ h i s (sym (getD-set-other slate p i o none d) ∙ e)
+      | yes a ↦ k s (sym (getD-set-same slate p o blank l) ∙ (rw a at e))
+      | no d ↦ h i s (sym (getD-set-other slate p i o blank d) ∙ e)
     ]
 
-pub none-bad : (Q : ℕ) (slate : Slate) → Small Q slate → firstBad (badValue true Q) (map stored slate) ≡ length slate
+pub none-bad : (Q : ℕ) (slate : Slate) → Small Q slate → firstBad (badValue true Q) (map seen slate) ≡ length slate
 unfolding firstBad
 none-bad Q [] h = refl
-none-bad Q (none ∷ slate) h = rw (good-gap Q 255 refl) (ap suc (none-bad Q slate (λ p. h (suc p))))
-none-bad Q (some s ∷ slate) h = rw (good-symbol true Q s (h 0 s refl)) (ap suc (none-bad Q slate (λ p. h (suc p))))
+none-bad Q (blank ∷ slate) h = rw (good-gap Q 255 refl) (ap suc (none-bad Q slate (λ p. h (suc p))))
+none-bad Q (symbol s ∷ slate) h = rw (good-symbol true Q s (h 0 s refl)) (ap suc (none-bad Q slate (λ p. h (suc p))))
+none-bad Q (struck ∷ slate) h = rw (good-gap Q 255 refl) (ap suc (none-bad Q slate (λ p. h (suc p))))
 
-blank-none : (n p s : ℕ) → getD (replicate n none) p none ≡ some s → ⊥
+cleared-slate : (Q : ℕ) → Q ≤ 254 → (slate : Slate) → Small Q slate → map cleared (map stored slate) ≡ map seen slate
+cleared-slate Q apart [] h = refl
+cleared-slate Q apart (o ∷ slate) h =
+    ap₂ (λ (x : ℕ) (l : List ℕ). x ∷ l) (cleared-stored Q apart o (h 0)) (cleared-slate Q apart slate (λ p. h (suc p)))
+
+blank-none : (n p s : ℕ) → getD (replicate n blank) p blank ≡ symbol s → ⊥
 blank-none zero p s e = let z : _≡_ {A = ℕ} 0 1 = cc in omega arith
 blank-none (suc n) zero s e = let z : _≡_ {A = ℕ} 0 1 = cc in omega arith
 blank-none (suc n) (suc p) s e = blank-none n p s e
 
-take-blank : (n k : ℕ) → n ≤ k → take n (replicate k 255) ≡ map stored (replicate n none)
+take-blank : (n k : ℕ) → n ≤ k → take n (replicate k 255) ≡ map stored (replicate n blank)
 take-blank zero k l = refl
 take-blank (suc n) zero l = absurd (omega arith)
 take-blank (suc n) (suc k) l = ap (λ (l : List ℕ). 255 ∷ l) (take-blank n k (omega arith))
 
--- the stored places are those of the slate
+-- the stored places are those of the slate, and nothing came to those after them
 pub record Mirrors (q : ℕ) (places : List ℕ) (slate : Slate) : Type 0 where
   pub room : length places ≡ 64
+  pub rest : drop (q * q * q) places ≡ drop (q * q * q) (replicate 64 255)
   pub same : take (q * q * q) places ≡ map stored slate
   pub len : length slate ≡ q * q * q
   pub small : Small (q * q) slate
+
+-- what the checks and recovery see of them
+pub sees : (q : ℕ) → IsCurve q → (places : List ℕ) (slate : Slate) → Mirrors q places slate
+    → map cleared (take (q * q * q) places) ≡ map seen slate
+sees q curve places slate h =
+    ap (map cleared) (h .same) ∙ cleared-slate (q * q) (omega (arith, sizes q curve .symbols)) slate (h .small)
 
 pub record Match (q m : ℕ) (session : Session) (slate : Slate) : Type 0 where
   pub places : List ℕ
@@ -111,8 +137,9 @@ opens q m e =
       is = ap (λ (t : Turn). t .session) (opened-done q m (orderChecks q m Done) refl (sym (opened-outcome q m) ∙ e));
       mirrors = record {
         room = refl;
+        rest = refl;
         same = take-blank (q * q * q) 64 (sizes q (opened-curve q m e .0) .points);
-        len = length-replicate (q * q * q) none;
+        len = length-replicate (q * q * q) blank;
         small = λ p s h. absurd (blank-none (q * q * q) p s h);
       };
     }
@@ -125,19 +152,15 @@ pub record Step (q m : ℕ) (session : Session) (slate : Slate) (p s : ℕ) : Ty
   pub next : Match q m (arrived session p s .session) (after q slate p s)
 
 module _ (q : ℕ) (slate : Slate) (p s : ℕ) where
-  takes-out : within q p s ≡ false → T (takes q slate p s) → ⊥
+  takes-is : takes q slate p s ≡ within q p s
   unfolding takes
-  takes-out e t = rw e at t
+  takes-is = refl
 
-  after-out : within q p s ≡ false → after q slate p s ≡ slate
+  pub after-out : within q p s ≡ false → after q slate p s ≡ slate
   unfolding after
   after-out e = rw e
 
-  takes-in : within q p s ≡ true → takes q slate p s ≡ marked (getD slate p none) s .taken
-  unfolding takes
-  takes-in e = rw e
-
-  after-in : within q p s ≡ true → after q slate p s ≡ set slate p (marked (getD slate p none) s .holds)
+  pub after-in : within q p s ≡ true → after q slate p s ≡ set slate p (marked (getD slate p blank) s)
   unfolding after
   after-in e = rw e
 
@@ -157,7 +180,7 @@ module _ (q m : ℕ) (curve : IsCurve q) (order : m < q * q * q) (places : List 
         is-Q = refl;
         order = order;
         room = omega (arith, sizes q curve .points, h .room);
-        is-w = sym (ap (firstBad (badValue true (q * q))) (h .same) ∙ none-bad (q * q) slate (h .small) ∙ h .len);
+        is-w = sym (ap (firstBad (badValue true (q * q))) (sees q curve places slate h) ∙ none-bad (q * q) slate (h .small) ∙ h .len);
       }
 
   -- the turn and the slate after it
@@ -168,30 +191,31 @@ module _ (q m : ℕ) (curve : IsCurve q) (order : m < q * q * q) (places : List 
   refused : (o : Outcome) → arrivalChecks now p s ≡ o → eqb (number o) 0 ≡ false → (o ≡ Done → ⊥) → within q p s ≡ false → Step q m now slate p s
   refused o e n d w =
       turns (turn now o) slate (arrived-refused now p s o e n) (after-out q slate p s w)
-      (λ f. absurd (d f), λ t. absurd (takes-out q slate p s w t)) matches
+      (rw (takes-is q slate p s, w) (λ f. d f, λ t. absurd t)) matches
 
   took : p < q * q * q → s < q * q → Step q m now slate p s
   took l k =
-      let o : Option ℕ = getD slate p none in
-      let x : ℕ = kept (getD places p 0) s .holds in
+      let o : Place = getD slate p blank in
+      let x : ℕ = kept (getD places p 0) s in
       let w : within q p s ≡ true = rw (lt-ltb p (q * q * q) l, lt-ltb s (q * q) k) in
-      let gap : q * q ≤ 255 = omega (arith, sizes q curve .symbols) in
+      let apart : q * q ≤ 254 = omega (arith, sizes q curve .symbols) in
       let held : getD places p 0 ≡ stored o
       = sym (getD-take (q * q * q) places p 0 l) ∙ ap (λ (v : List ℕ). getD v p 0) (h .same)
-      ∙ getD-map stored slate none 0 p (omega (arith, h .len)) in
-      let keeps : x ≡ stored (marked o s .holds) = ap (λ (v : ℕ). kept v s .holds) held ∙ kept-holds (q * q) gap s o (h .small p) in
-      turns (turn (with now p x) (kept (getD places p 0) s .outcome)) (set slate p (marked o s .holds))
-      (arrived-kept now p s (checks-done now p s _ _ _ searched (omega arith) l k) (kept (getD places p 0) s) refl)
+      ∙ getD-map stored slate blank 0 p (omega (arith, h .len)) in
+      let keeps : x ≡ stored (marked o s) = ap (λ (v : ℕ). kept v s) held ∙ kept-stored (q * q) apart s k o (h .small p) in
+      turns (turn (with now p x) Done) (set slate p (marked o s))
+      (arrived-kept now p s Done (sym (checks-done now p s _ _ _ searched (omega arith) l k)) refl x refl)
       (after-in q slate p s w)
-      (rw (takes-in q slate p s w, held) (kept-done (q * q) gap s o (h .small p)))
+      (rw (takes-is q slate p s, w) (λ e. tt, λ t. refl))
       (record {
         places = set places p x;
         is = refl;
         mirrors = record {
           room = length-set places p x ∙ h .room;
-          same = take-set-lt (q * q * q) places p x l ∙ rw (h .same, keeps) (sym (map-set stored slate p (marked o s .holds)));
-          len = length-set slate p (marked o s .holds) ∙ h .len;
-          small = small-set (q * q) slate p (marked o s .holds) (omega (arith, h .len)) (marked-symbol (q * q) gap s o (h .small p) k) (h .small);
+          rest = drop-set-lt (q * q * q) places p x l ∙ h .rest;
+          same = take-set-lt (q * q * q) places p x l ∙ rw (h .same, keeps) (sym (map-set stored slate p (marked o s)));
+          len = length-set slate p (marked o s) ∙ h .len;
+          small = small-set (q * q) slate p (marked o s) (omega (arith, h .len)) (marked-symbol (q * q) apart s k o (h .small p)) (h .small);
         };
       })
 

@@ -29,9 +29,13 @@ pub record Row : Type 0 where
   pub ours : Answer
   pub paper : Answer
 
--- zeros at 0, 4 and 7, and besides an asking, a clash and a symbol that is none
+-- zeros at 0, 4 and 7, and besides an asking, the same symbol again and a symbol that is none
 abbrev pub zeros : List Event
-zeros = Arrival 0 0 ∷ Arrival 4 0 ∷ Asking [] ∷ Arrival 7 0 ∷ Arrival 7 1 ∷ Arrival 5 4 ∷ []
+zeros = Arrival 0 0 ∷ Arrival 4 0 ∷ Asking [] ∷ Arrival 7 0 ∷ Arrival 7 0 ∷ Arrival 5 4 ∷ []
+
+-- two different symbols at a place, and the first again
+abbrev pub strike : ℕ → List Event
+strike p = Arrival p 1 ∷ Arrival p 2 ∷ Arrival p 1 ∷ []
 
 abbrev pub room : List ℕ
 room = 9 ∷ 9 ∷ 9 ∷ []
@@ -43,6 +47,9 @@ rows =
     -- H, and with 1 at place 1 too
     ∷ record { ours = asked (sessionAfter 2 3 zeros) room; paper = answered (Several 1) room }
     ∷ record { ours = asked (sessionAfter 2 3 (zeros ++ (Arrival 1 1 ∷ []))) room; paper = answered Done (0 ∷ 1 ∷ 1 ∷ []) }
+    -- a struck place counts as missing: H with wrong symbols at place 2, and H with the 1 at place 1 struck out
+    ∷ record { ours = asked (sessionAfter 2 3 (strike 2 ++ (zeros ++ (Arrival 1 1 ∷ [])))) room; paper = answered Done (0 ∷ 1 ∷ 1 ∷ []) }
+    ∷ record { ours = asked (sessionAfter 2 3 (zeros ++ strike 1)) room; paper = answered (Several 1) room }
     -- two different symbols at order 0
     ∷ record { ours = asked (sessionAfter 2 0 (Arrival 3 1 ∷ Arrival 6 2 ∷ [])) (7 ∷ []); paper = answered NoMessage (7 ∷ []) }
     ∷ []

@@ -1,7 +1,6 @@
 -- DEMAND 3: "a single claim about a whole list of arrivals and askings, the empty list too".
 use mathlib.Core.Path.{_≡_}
 use mathlib.Core.List.{List, [], _∷_, _++_}
-use mathlib.Core.Option.{none, some}
 use mathlib.Core.Logic.{_↔_}
 use Prim.Native.Nat.{ℕ, _+_, _*_, _^_, _≤_}
 use lib.Dec.{T}
@@ -17,7 +16,7 @@ use Rattle.session.specs.declared.Session.{Session}
 use Rattle.session.specs.Opened.{opened}
 use Rattle.session.specs.Arrived.{arrived}
 use Rattle.session.specs.Asked.{asked}
-use Rattle.session.specs.Slate.{Slate, blankSlate, takes, after, held}
+use Rattle.session.specs.Slate.{Slate, blank, symbol, blankSlate, takes, after, held}
 
 -- "Arrivals have any place and symbol, and each asking is lent a slice of any length."
 pub data Event : Type 0 where
@@ -45,9 +44,10 @@ sessionAfter q m events = sessionFrom (opened q m .session) events
 
 module _ (q m : ℕ) where
   -- "A message is k symbols." "A message fits the slate if its word has the slate's symbol at every place of the slate that holds one."
+  -- A struck place holds none: it "counts as missing" (T-01).
   pub record FitsSlate (slate : Slate) (v : List ℕ) : Type 0 where
     pub symbols : Vector (q * q) (size q m) v
-    pub agree : (p s : ℕ) → getD slate p none ≡ some s → getD (wordOf q (columnsOf q) m v) p 0 ≡ s
+    pub agree : (p s : ℕ) → getD slate p blank ≡ symbol s → getD (wordOf q (columnsOf q) m v) p 0 ≡ s
 
   -- what asking answers after the events
   abbrev pub answer : List Event → List ℕ → Answer

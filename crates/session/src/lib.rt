@@ -1,15 +1,16 @@
 // A receiving session: opening, arrival and asking.
 pub mod replay;
 
+ghost use mathlib.Core.List.{map};
 ghost use mathlib.Core.Path.{_≡_};
 ghost use Rattle.session.specs.Opened.{fresh, opened};
-ghost use Rattle.session.specs.Arrived.{kept, arrivalChecks, arrived};
+ghost use Rattle.session.specs.Arrived.{cleared, kept, arrivalChecks, arrived};
 ghost use Rattle.session.specs.Asked.{asked};
 use field::Curve;
 use field::Named;
 use field::Outcome;
 
-// q, m and the symbols that came, 255 where none did. Places from n on are never read.
+// q, m and the symbols that came, 255 where none did and 254 where two differed. Places from n on are never read.
 pub struct Session {
     pub q: u8,
     pub m: u8,
@@ -20,12 +21,6 @@ pub struct Session {
 pub struct Turn {
     pub session: Session,
     pub outcome: Outcome,
-}
-
-// What an arrival does at a place: what the place then holds, and the outcome.
-struct Kept {
-    holds: u8,
-    outcome: Outcome,
 }
 
 // A session that has heard nothing.
@@ -52,25 +47,33 @@ pub fn open(q: u8, m: u8) -> Turn
     }
 }
 
-// An arrival of the symbol at a place that holds `held`.
-fn keep(held: u8, symbol: u8) -> Kept
+// What a place that holds `held` then holds, where the symbol arrives at it.
+fn keep(held: u8, symbol: u8) -> u8
     ensures { λ r. ⌜ r ≡ kept held symbol ⌝ }
 {
     if held == 255 {
-        return Kept {
-            holds: symbol,
-            outcome: Outcome::Done,
-        };
+        return symbol;
     }
     if held == symbol {
-        return Kept {
-            holds: held,
-            outcome: Outcome::Done,
-        };
+        return held;
     }
-    Kept {
-        holds: held,
-        outcome: Outcome::Clash,
+    254
+}
+
+fn cleared_of(x: u8) -> u8
+    ensures { λ r. ⌜ r ≡ cleared x ⌝ }
+{
+    if x == 254 { 255 } else { x }
+}
+
+// Struck places become missing ones.
+fn clear(places: &mut [u8])
+    ensures { λ _. ⌜ now (places .exit) ≡ map cleared (now (places .entry)) ⌝ }
+{
+    let mut i = 0;
+    while i < places.len() {
+        places[i] = cleared_of(places[i]);
+        i += 1;
     }
 }
 
@@ -89,7 +92,8 @@ impl Session {
             return Outcome::BadOrder;
         }
         let size = curve.symbols;
-        let places = self.places;
+        let mut places = self.places;
+        clear(&mut places[..n]);
         let bad = code::check::first_bad(true, size, &places[..n]);
         if bad < n {
             return Outcome::BadValue(bad as u8);
@@ -109,12 +113,10 @@ impl Session {
         let checked = self.check(place, symbol);
         if let Outcome::Done = checked {
             let at = place as usize;
-            let kept = keep(self.places[at], symbol);
-            let outcome = kept.outcome;
-            self.places[at] = kept.holds;
+            self.places[at] = keep(self.places[at], symbol);
             Turn {
                 session: self,
-                outcome,
+                outcome: checked,
             }
         } else {
             Turn {
@@ -124,7 +126,7 @@ impl Session {
         }
     }
 
-    // Recovery from the stored q, m and first n places.
+    // Recovery from the stored q, m and first n places, a struck one being missing.
     pub fn ask(self, message: &mut [u8]) -> Outcome
         ensures { λ r. ⌜ asked self (now (message .entry)) ≡ record { outcome = r; slice = now (message .exit) } ⌝ }
     {
@@ -134,7 +136,8 @@ impl Session {
             return Outcome::BadCurve;
         };
         let n = curve.points;
-        let places = self.places;
+        let mut places = self.places;
+        clear(&mut places[..n]);
         code::recovery::recover(q, m, &places[..n], message)
     }
 }

@@ -4,8 +4,8 @@ use std::error::Error;
 use std::fmt;
 
 /// The refusals that the three entries can give. The library checks in the
-/// order of the numbers, and the first that applies decides. Numbers 6 to 8
-/// belong to receiving sessions, which have no C entry.
+/// order of the numbers, and the first that applies decides. Numbers 6 and 7
+/// belong to receiving sessions, which have no C entry; 8 no longer occurs.
 #[derive(Clone, Copy, Debug, PartialEq, Eq, Hash)]
 pub enum Refusal {
     /// 1: q is neither 2 nor 4.

@@ -15,7 +15,6 @@ impl Outcome {
     pub const WRONG_OUTPUT_LENGTH: Outcome = Outcome::plain(5);
     pub const PLACE_TOO_HIGH: Outcome = Outcome::plain(6);
     pub const SYMBOL_TOO_HIGH: Outcome = Outcome::plain(7);
-    pub const PLACE_HOLDS_ANOTHER: Outcome = Outcome::plain(8);
     pub const NO_MESSAGE_FITS: Outcome = Outcome::plain(9);
     pub const INVERSE_OF_ZERO: Outcome = Outcome::plain(13);
 
@@ -69,11 +68,12 @@ mod tests {
             Outcome::WRONG_OUTPUT_LENGTH,
             Outcome::PLACE_TOO_HIGH,
             Outcome::SYMBOL_TOO_HIGH,
-            Outcome::PLACE_HOLDS_ANOTHER,
             Outcome::NO_MESSAGE_FITS,
             Outcome::several_messages_fit(0),
         ];
-        for (expected, outcome) in (0u8..).zip(numbers) {
+        // Request T-01: refusal 8 no longer occurs.
+        let expected = (0u8..).filter(|&number| number != 8);
+        for (expected, outcome) in expected.zip(numbers) {
             assert_eq!((outcome.number, outcome.second), (expected, 0));
         }
     }

@@ -9,6 +9,9 @@ use crate::outcome::Outcome;
 /// The places that a session holds, for either curve.
 pub const PLACE_COUNT: usize = 64;
 
+/// Stands at a place where two different symbols came (request T-01).
+pub const STRUCK: u8 = 254;
+
 /// Every value is allowed, also one that no opening or arrival hands back.
 #[derive(Clone, Copy, Debug, PartialEq, Eq)]
 pub struct Session {
@@ -36,48 +39,55 @@ impl Session {
         }
     }
 
-    /// Hands the session back with the symbol stored, or as it came.
+    /// Hands the session back with the symbol stored or the place struck out,
+    /// or as it came.
     pub fn arrive(self, place: u8, symbol: u8) -> (Session, Outcome) {
         match self.check_arrival(place, symbol) {
-            Ok(()) => (self.with_stored(place, symbol), Outcome::ACCEPTED),
+            Ok(()) => (self.with_heard(place, symbol), Outcome::ACCEPTED),
             Err(refusal) => (self, refusal),
         }
     }
 
-    /// Recovery from the stored q, m and first n places.
+    /// Recovery from the stored q, m and first n places, a struck one being
+    /// missing.
     pub fn ask(&self, message: &mut [u8]) -> Outcome {
         match Curve::named(self.q) {
-            Some(curve) => code::recover(self.q, self.m, self.used_places(curve), message),
+            Some(curve) => code::recover(self.q, self.m, &self.standing(curve), message),
             None => Outcome::UNKNOWN_CURVE,
         }
     }
 
     fn check_arrival(&self, place: u8, symbol: u8) -> Result<(), Outcome> {
         let curve = checks::curve_and_order(self.q, self.m)?;
-        let used = self.used_places(curve);
-        checks::symbols_or_missing(curve.field(), used)?;
-        let held = *used
-            .get(usize::from(place))
-            .ok_or(Outcome::PLACE_TOO_HIGH)?;
+        checks::symbols_or_missing(curve.field(), &self.standing(curve))?;
+        if usize::from(place) >= curve.point_count() {
+            return Err(Outcome::PLACE_TOO_HIGH);
+        }
         if symbol >= curve.field().size() {
             return Err(Outcome::SYMBOL_TOO_HIGH);
-        }
-        if held != MISSING && held != symbol {
-            return Err(Outcome::PLACE_HOLDS_ANOTHER);
         }
         Ok(())
     }
 
-    fn with_stored(mut self, place: u8, symbol: u8) -> Session {
+    /// A missing place takes the symbol; one that holds anything else than it
+    /// is struck out, and stays so.
+    fn with_heard(mut self, place: u8, symbol: u8) -> Session {
         if let Some(held) = self.places.get_mut(usize::from(place)) {
-            *held = symbol;
+            if *held == MISSING {
+                *held = symbol;
+            } else if *held != symbol {
+                *held = STRUCK;
+            }
         }
         self
     }
 
-    /// The first n places; those from n on are never read.
-    fn used_places(&self, curve: Curve) -> &[u8] {
-        &self.places[..curve.point_count()]
+    /// The first n places, a struck one as missing; those from n on are never
+    /// read.
+    fn standing(&self, curve: Curve) -> Vec<u8> {
+        let unless_struck = |&held: &u8| if held == STRUCK { MISSING } else { held };
+        let used = &self.places[..curve.point_count()];
+        used.iter().map(unless_struck).collect()
     }
 }
 
@@ -168,7 +178,7 @@ mod tests {
         let mut session = Session {
             q: 3,
             m: 64,
-            places: [254; 64],
+            places: [253; 64],
         };
         assert_eq!(refused_arrival(session, 64, 16), Outcome::UNKNOWN_CURVE);
         session.q = 4;
@@ -180,9 +190,76 @@ mod tests {
         assert_eq!(refused_arrival(session, 64, 16), Outcome::PLACE_TOO_HIGH);
         assert_eq!(refused_arrival(session, 63, 16), Outcome::SYMBOL_TOO_HIGH);
         assert_eq!(refused_arrival(session, 63, 255), Outcome::SYMBOL_TOO_HIGH);
-        let clash = Outcome::PLACE_HOLDS_ANOTHER;
-        assert_eq!(refused_arrival(session, 63, 15), clash);
         assert_eq!(after_arrivals(session, &[(63, 1)]), session);
+    }
+
+    #[test]
+    fn a_differing_symbol_strikes_the_place_out_for_good() {
+        let session = after_arrivals(opened(4, 37), &[(5, 1)]);
+        let struck = after_arrivals(session, &[(5, 2)]);
+        assert_eq!(struck.places[5], 254);
+        for symbol in 0..16 {
+            assert_eq!(after_arrivals(struck, &[(5, symbol)]), struck);
+        }
+        let untouched = Session {
+            places: [255; PLACE_COUNT],
+            ..struck
+        };
+        let mut message = [9; 32];
+        assert_eq!(struck.ask(&mut message), untouched.ask(&mut [9; 32]));
+        assert_eq!(message, [9; 32]);
+    }
+
+    #[test]
+    fn struck_places_are_no_bad_values_and_count_as_missing() {
+        let mut session = opened(2, 3);
+        session.places[..8].copy_from_slice(&[0, 1, 254, 254, 0, 254, 255, 0]);
+        let mut message = [0; 3];
+        assert_eq!(session.ask(&mut message), Outcome::ACCEPTED);
+        assert_eq!(message, [0, 1, 1]);
+        session.places[6] = 253;
+        let bad_value = Outcome::value_too_high(6);
+        assert_eq!(session.ask(&mut message), bad_value);
+        assert_eq!(refused_arrival(session, 2, 0), bad_value);
+    }
+
+    #[test]
+    fn m_plus_1_unstruck_places_are_enough() {
+        let mut generator = Generator::with_seed(33);
+        for shape in Curve::BOTH.into_iter().flat_map(Shape::every_order) {
+            let message = sample::message(&mut generator, shape);
+            let word = shape.word_of(&message);
+            let mut session = opened(shape.q(), shape.m);
+            let places = generator.permutation(shape.n);
+            for (index, &place) in places.iter().enumerate() {
+                let right = (place as u8, word[place]);
+                let another = sample::another_symbol(&mut generator, shape, word[place]);
+                let wrong = (place as u8, another);
+                let arrivals: &[_] = match (index <= usize::from(shape.m), index % 2) {
+                    (true, _) => &[right],
+                    (false, 0) => &[wrong, right],
+                    (false, _) => &[right, wrong, right],
+                };
+                session = after_arrivals(session, arrivals);
+            }
+            let mut asked = vec![99; shape.k];
+            assert_eq!(session.ask(&mut asked), Outcome::ACCEPTED);
+            assert_eq!(asked, message);
+        }
+    }
+
+    #[test]
+    fn the_end_state_does_not_depend_on_the_order() {
+        let mut generator = Generator::with_seed(34);
+        for _ in 0..2_000 {
+            let arrival = |_| (generator.byte_from(0, 7), generator.byte_from(0, 3));
+            let arrivals: Vec<(u8, u8)> = (0..10).map(arrival).collect();
+            let order = generator.permutation(arrivals.len());
+            let reordered: Vec<(u8, u8)> = order.iter().map(|&index| arrivals[index]).collect();
+            let end = after_arrivals(opened(2, 3), &arrivals);
+            assert_eq!(after_arrivals(opened(2, 3), &reordered), end);
+            assert_eq!(after_arrivals(end, &reordered), end);
+        }
     }
 
     #[test]
@@ -247,28 +324,46 @@ mod tests {
         }
     }
 
+    #[derive(Clone, Copy, PartialEq)]
+    enum Place {
+        Blank,
+        Holds(u8),
+        Struck,
+    }
+
     /// The slate of the paper: worked out from the arguments alone.
     struct Slate {
-        symbols: Vec<Option<u8>>,
+        places: Vec<Place>,
         field_size: u8,
     }
 
     impl Slate {
         fn takes(&mut self, place: u8, symbol: u8) -> bool {
-            let Some(held) = self.symbols.get_mut(usize::from(place)) else {
+            let Some(held) = self.places.get_mut(usize::from(place)) else {
                 return false;
             };
             if symbol >= self.field_size {
                 return false;
             }
-            *held.get_or_insert(symbol) == symbol
+            *held = match *held {
+                Place::Blank => Place::Holds(symbol),
+                Place::Holds(first) if first == symbol => Place::Holds(first),
+                _ => Place::Struck,
+            };
+            true
         }
 
         fn fits(&self, word: &[u8]) -> bool {
-            let pairs = self.symbols.iter().zip(word);
-            pairs
-                .into_iter()
-                .all(|(held, symbol)| held.is_none_or(|held| held == *symbol))
+            let mut pairs = self.places.iter().zip(word);
+            pairs.all(|(place, symbol)| match place {
+                Place::Holds(held) => held == symbol,
+                _ => true,
+            })
+        }
+
+        fn held(&self) -> usize {
+            let holds = |place: &&Place| matches!(place, Place::Holds(_));
+            self.places.iter().filter(holds).count()
         }
     }
 
@@ -285,7 +380,7 @@ mod tests {
         let (_, target) = words[generator.below(words.len())].clone();
         let mut session = opened(shape.q(), shape.m);
         let mut slate = Slate {
-            symbols: vec![None; shape.n],
+            places: vec![Place::Blank; shape.n],
             field_size: shape.field_size,
         };
         for _ in 0..20 {
@@ -301,17 +396,22 @@ mod tests {
             let taken = slate.takes(place as u8, symbol);
             assert_eq!(outcome == Outcome::ACCEPTED, taken);
             session = after;
-            ask_by_the_slate(&session, &slate, &words, shape.k);
+            ask_by_the_slate(&session, &slate, &words, shape);
         }
     }
 
-    fn ask_by_the_slate(session: &Session, slate: &Slate, words: &[(Vec<u8>, Vec<u8>)], k: usize) {
+    fn ask_by_the_slate(
+        session: &Session,
+        slate: &Slate,
+        words: &[(Vec<u8>, Vec<u8>)],
+        shape: Shape,
+    ) {
         let fitting: Vec<&Vec<u8>> = words
             .iter()
             .filter(|(_, word)| slate.fits(word))
             .map(|(message, _)| message)
             .collect();
-        let mut message = vec![99; k];
+        let mut message = vec![99; shape.k];
         let outcome = session.ask(&mut message);
         match fitting.as_slice() {
             [] => assert_eq!(outcome, Outcome::NO_MESSAGE_FITS),
@@ -320,6 +420,7 @@ mod tests {
                 assert_eq!(&message, *only);
             }
             several => {
+                assert!(slate.held() <= usize::from(shape.m));
                 assert_eq!(outcome.number, 10);
                 assert_eq!(4usize.pow(u32::from(outcome.second)), several.len());
             }

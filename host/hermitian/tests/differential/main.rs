@@ -82,8 +82,9 @@ fn say(line: &str) {
     let _ = writeln!(std::io::stderr(), "{line}");
 }
 
-/// Refusals 6 to 8 are those of sessions, which have no C entry; a message
-/// always has a word; a whole word never leaves several messages.
+/// Refusals 6 and 7 are those of sessions, which have no C entry; 8 no longer
+/// occurs; a message always has a word; a whole word never leaves several
+/// messages.
 fn every_answer_came_up(tally: &Tally) {
     for entry in Entry::ALL {
         for number in 0..=10 {

@@ -7,7 +7,7 @@ use reference::curve::Curve;
 use reference::file_pair;
 use reference::generator::Generator;
 use reference::sample::{self, Shape};
-use reference::session::PLACE_COUNT;
+use reference::session::{PLACE_COUNT, STRUCK};
 use std::process::ExitCode;
 
 const SEED: u64 = 1;
@@ -46,6 +46,7 @@ fn all_cases() -> Vec<Case> {
         builder.recover_cases(shape);
     }
     builder.session_runs();
+    builder.strike_runs();
     builder.raw_sessions();
     builder.cases
 }
@@ -328,6 +329,60 @@ impl Builder {
         }
     }
 
+    /// Strikes that leave exactly m + 1 or m unstruck places, and fewer.
+    fn strike_runs(&mut self) {
+        for shape in Shape::every_order(Curve::Q_IS_2) {
+            let m = usize::from(shape.m);
+            for left in [m + 1, m, m / 2] {
+                self.strike_run(shape, left);
+            }
+        }
+        for m in [2, 5, 11, 37, 62] {
+            let shape = Shape::of(Curve::Q_IS_4, m);
+            self.strike_run(shape, usize::from(m) + 1);
+            self.strike_run(shape, usize::from(m));
+        }
+    }
+
+    /// Opens a session, lets one symbol of a word more than `left` arrive, or
+    /// all n, and strikes one of their places; then one that was missing.
+    fn strike_run(&mut self, shape: Shape, left: usize) {
+        let word = sample::codeword(&mut self.generator, shape);
+        let places = self.generator.permutation(shape.n);
+        let known = (left + 1).min(shape.n);
+        self.open(shape.q(), shape.m);
+        for &place in &places[..known] {
+            self.arrive(place, word[place]);
+        }
+        self.ask(shape.k);
+        let struck = places[self.generator.below(known)];
+        self.strike(shape, struck, &word);
+        if let Some(&place) = places.get(known) {
+            self.strike_with_the_wrong_symbol_first(shape, place, &word);
+        }
+    }
+
+    /// `place` holds its symbol: another, a third, and the first again come.
+    fn strike(&mut self, shape: Shape, place: usize, word: &[u8]) {
+        let first = word[place];
+        let another = sample::another_symbol(&mut self.generator, shape, first);
+        self.arrive(place, another);
+        self.ask(shape.k);
+        let third = (0..shape.field_size).find(|&symbol| symbol != first && symbol != another);
+        for symbol in third.into_iter().chain([first, another]) {
+            self.arrive(place, symbol);
+        }
+        self.ask(shape.k);
+    }
+
+    fn strike_with_the_wrong_symbol_first(&mut self, shape: Shape, place: usize, word: &[u8]) {
+        let another = sample::another_symbol(&mut self.generator, shape, word[place]);
+        self.arrive(place, another);
+        self.ask(shape.k);
+        self.arrive(place, word[place]);
+        self.ask(shape.k);
+    }
+
     /// Opens a session and lets `known` symbols of a word arrive in an
     /// arbitrary order, with other events in between.
     fn session_run(&mut self, shape: Shape, known: usize, is_damaged: bool) {
@@ -380,16 +435,20 @@ impl Builder {
         }
         for curve in Curve::BOTH {
             for m in [3, 7] {
-                self.whole_word_stored(Shape::of(curve, m));
-                self.bad_stored_values(Shape::of(curve, m));
+                self.stored_values(Shape::of(curve, m));
             }
         }
-        self.whole_word_stored(Shape::of(Curve::Q_IS_4, 37));
-        self.bad_stored_values(Shape::of(Curve::Q_IS_4, 37));
+        self.stored_values(Shape::of(Curve::Q_IS_4, 37));
         let bad_curves = BAD_CURVES.into_iter().flat_map(|q| [(q, 3), (q, 255)]);
         for (q, m) in bad_curves.chain(BAD_ORDERS) {
             self.bad_stored_numbers(q, m);
         }
+    }
+
+    fn stored_values(&mut self, shape: Shape) {
+        self.whole_word_stored(shape);
+        self.struck_places_stored(shape);
+        self.bad_stored_values(shape);
     }
 
     /// A q = 2 session whose places from 8 on hold anything.
@@ -424,6 +483,29 @@ impl Builder {
         places[place] = another;
         self.set(shape.q(), shape.m, &places);
         self.ask(shape.k);
+    }
+
+    /// A word with half of its missing places struck out, and then also a
+    /// value that may stand nowhere.
+    fn struck_places_stored(&mut self, shape: Shape) {
+        let word = sample::codeword(&mut self.generator, shape);
+        let known = self.generator.below(shape.n - 1);
+        let mut places = sample::with_known(&mut self.generator, &word, known);
+        let missing = places.iter_mut().filter(|symbol| **symbol == MISSING);
+        missing.step_by(2).for_each(|symbol| *symbol = STRUCK);
+        places.resize(PLACE_COUNT, STRUCK);
+        self.set(shape.q(), shape.m, &places);
+        self.ask(shape.k);
+        for place in [0, shape.n / 2, shape.n - 1] {
+            self.arrive(place, word[place]);
+            self.ask(shape.k);
+        }
+        self.arrive(shape.n, 0);
+        let index = self.generator.below(shape.n);
+        places[index] = STRUCK - 1;
+        self.set(shape.q(), shape.m, &places);
+        self.ask(shape.k);
+        self.arrive(index, 0);
     }
 
     fn bad_stored_values(&mut self, shape: Shape) {
@@ -465,9 +547,9 @@ mod tests {
     }
 
     #[test]
-    fn there_are_about_6000_cases_and_each_fits_its_record() {
+    fn there_are_about_7000_cases_and_each_fits_its_record() {
         let cases = all_cases();
-        assert!((5500..=6700).contains(&cases.len()), "{}", cases.len());
+        assert!((6600..=7600).contains(&cases.len()), "{}", cases.len());
         for case in &cases {
             let record: [u8; RECORD_LENGTH] = case.to_record();
             assert_eq!(&Case::from_record(&record), case);
@@ -507,7 +589,7 @@ mod tests {
             ("r", vec![0, 1, 2, 3, 4, 5, 9, 10]),
             ("o", vec![0, 1, 2]),
             ("s", vec![0]),
-            ("a", vec![0, 1, 2, 4, 6, 7, 8]),
+            ("a", vec![0, 1, 2, 4, 6, 7]),
             ("k", vec![0, 1, 2, 4, 5, 9, 10]),
         ];
         possible

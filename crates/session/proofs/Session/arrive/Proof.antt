@@ -36,7 +36,7 @@ returns : tie.Need-returns
 returns c =
     let told = c .before .before in
     let x = told .before .before .before .args in
-    sym (arrived-kept (x .t1) (x .place) (x .symbol) (sym (told .before .before .check .ensures) ∙ told .enum-told .given .1) _ (c .keep .ensures))
+    sym (arrived-kept (x .t1) (x .place) (x .symbol) _ (told .before .before .check .ensures) (told .enum-told .given .1) _ (c .keep .ensures))
 
 returns-2 : tie.Need-returns-2
 returns-2 c =

@@ -1,7 +1,8 @@
--- `session::Session::ask` meets its contract: it is recovery from the first n places.
+-- `session::Session::ask` meets its contract: it is recovery from the first n places, cleared.
 -- Assumes nothing.
+use mathlib.Core.List.{List}
 use mathlib.Core.Path.{_≡_, sym, ap, _∙_}
-use Prim.Native.Nat.{_*_, _≤_}
+use Prim.Native.Nat.{ℕ, _*_, _≤_}
 use native.Mathlib.Omega.{arith}
 use denote.Ref.{now}
 use borrow.Author.Needs.{needs}
@@ -10,7 +11,8 @@ use lib.Seq.{length-take-le}
 use Rattle.field.specs.Curve.{IsCurve, curveOf}
 use Rattle.field.specs.declared.curve.Curve.{Curve}
 use Rattle.field.proofs.Curves.{named, unnamed, sizes}
-use Rattle.session.proofs.Arrivals.{asked-curve, asked-recovered}
+use Rattle.code.specs.Recovered.{recovered}
+use Rattle.session.proofs.Arrivals.{cleared-room, cleared-take, cleared-long, asked-curve, asked-recovered}
 use Rattle.session.proofs.Session.ask.Statement.{statement}
 use Rattle.session.proofs.Session.ask.Tie as tie
 
@@ -34,6 +36,10 @@ room c =
     let long : length (s .places) ≡ 64 = sym (length-map (s .places) _) ∙ start c .good .0 .1 .1 .1 .1 .0 .1 .0 .1 in
     omega (arith, points c, sizes (s .q) (found c .0) .points, long)
 
+-- past the clearing of the first n places
+abbrev cleared-at : (c : tie.After-clear) → tie.After-known-told
+cleared-at c = c .before .before .before
+
 of-requires : tie.Need-of-requires
 of-requires c κs = search needs
 
@@ -48,11 +54,20 @@ returns c =
     let x = c .before .before .before .before .args in
     asked-curve (x .self) (now (x .message)) (unnamed (x .self .q) (sym (c .before .before .of .ensures) ∙ c .enum-told .given .1))
 
+array-borrow-prefix-places : tie.Need-array-borrow-prefix-places
+array-borrow-prefix-places c = room (c .before)
+
+slice-aggregate-clear : tie.Need-slice-aggregate-clear
+slice-aggregate-clear c = sym (length-take-le _ _ (room (c .before .before)))
+
+clear-requires : tie.Need-clear-requires
+clear-requires c κs = search needs
+
 array-share-prefix-places : tie.Need-array-share-prefix-places
-array-share-prefix-places c = room (c .before)
+array-share-prefix-places c = let k = c .before in cleared-room _ _ _ (room (cleared-at k)) (k .clear .ensures)
 
 slice-aggregate-recover : tie.Need-slice-aggregate-recover
-slice-aggregate-recover c = sym (length-take-le _ _ (room (c .before .before)))
+slice-aggregate-recover c = let k = c .before .before in cleared-long _ _ _ (room (cleared-at k)) (k .clear .ensures)
 
 recover-requires : tie.Need-recover-requires
 recover-requires c κs = search needs
@@ -62,9 +77,13 @@ same-length c = search needs
 
 returns-2 : tie.Need-returns-2
 returns-2 c =
-    let known = c .before .before .before .before .before .before in
+    let back = c .before .before .before .before .before .before in
+    let known = cleared-at back in
     let x = start known .args in
-    asked-recovered (x .self) (now (x .message)) _ (points known) ∙ c .before .before .recover .ensures
+    asked-recovered (x .self) (now (x .message)) _ (points known)
+    ∙ ap (λ (v : List ℕ). recovered (x .self .q) (x .self .m) v (now (x .message)))
+    (sym (cleared-take _ _ _ (room known) (back .clear .ensures)))
+    ∙ c .before .before .recover .ensures
 
 pub ask-spec : {M : Type 1} → statement M
 ask-spec =
@@ -74,6 +93,9 @@ ask-spec =
     enum-known-curve
     enum-told
     returns
+    array-borrow-prefix-places
+    slice-aggregate-clear
+    clear-requires
     array-share-prefix-places
     slice-aggregate-recover
     recover-requires

@@ -9,7 +9,8 @@ use lib.Seq.{length-take-le}
 use Rattle.field.specs.Curve.{IsCurve, curveOf}
 use Rattle.field.specs.declared.curve.Curve.{Curve}
 use Rattle.field.proofs.Curves.{named, unnamed, sizes}
-use Rattle.session.proofs.Arrivals.{Searched, checks-curve, checks-order, checks-value, checks-place, checks-symbol, checks-done}
+use Rattle.code.specs.Checks.{firstBad}
+use Rattle.session.proofs.Arrivals.{cleared-room, cleared-take, cleared-long, Searched, checks-curve, checks-order, checks-value, checks-place, checks-symbol, checks-done}
 use Rattle.session.proofs.Session.check.Statement.{statement}
 use Rattle.session.proofs.Session.check.Tie as tie
 
@@ -33,9 +34,13 @@ room c =
     let long : length (s .places) ≡ 64 = sym (length-map (s .places) _) ∙ start c .good .0 .1 .1 .1 .1 .0 .1 .0 .1 in
     omega (arith, points c, sizes (s .q) (found c .0) .points, long)
 
+-- past the clearing of the first n places
+abbrev cleared-at : (c : tie.After-clear) → tie.After-known-told
+cleared-at c = c .before .before .before .before
+
 -- past the search for a bad value
 abbrev known : (c : tie.After-first-bad) → tie.After-known-told
-known c = c .before .before .before .before
+known c = cleared-at (c .before .before .before)
 
 searched : (c : tie.After-first-bad) → let x = start (known c) .args in let v = curve (known c) in
     Searched (x .self) (x .place) (x .symbol) (v .points) (v .symbols) (c .first-bad .result)
@@ -44,9 +49,10 @@ searched c =
       is-curve = found (known c) .0;
       is-n = points (known c);
       is-Q = ap (λ (v : Curve). v .symbols) (found (known c) .1);
-      order = c .before .before .before .if1 .left;
+      order = c .before .before .before .before .before .before .if1 .left;
       room = room (known c);
-      is-w = c .first-bad .ensures;
+      is-w = c .first-bad .ensures
+          ∙ ap (firstBad _) (cleared-take _ _ _ (room (known c)) (c .before .before .before .clear .ensures));
     }
 
 cast-m : tie.Need-cast-m
@@ -71,17 +77,26 @@ returns-2 c =
     let x = start (c .before) .args in
     sym (checks-order (x .self) (x .place) (x .symbol) (found (c .before) .0) (omega (arith, c .if1 .taken, points (c .before))))
 
+array-borrow-prefix-places : tie.Need-array-borrow-prefix-places
+array-borrow-prefix-places c = room (c .before .before)
+
+slice-aggregate-clear : tie.Need-slice-aggregate-clear
+slice-aggregate-clear c = sym (length-take-le _ _ (room (c .before .before .before)))
+
+clear-requires : tie.Need-clear-requires
+clear-requires c κs = search needs
+
 array-share-prefix-places : tie.Need-array-share-prefix-places
-array-share-prefix-places c = room (c .before .before)
+array-share-prefix-places c = let k = c .before in cleared-room _ _ _ (room (cleared-at k)) (k .clear .ensures)
 
 slice-aggregate-first-bad : tie.Need-slice-aggregate-first-bad
-slice-aggregate-first-bad c = sym (length-take-le _ _ (room (c .before .before .before)))
+slice-aggregate-first-bad c = let k = c .before .before in cleared-long _ _ _ (room (cleared-at k)) (k .clear .ensures)
 
 first-bad-requires : tie.Need-first-bad-requires
 first-bad-requires c κs = search needs
 
-cast-t15 : tie.Need-cast-t15
-cast-t15 c = let k = known (c .before) in omega (arith, c .if2 .taken, points k, sizes _ (found k .0) .points)
+cast-t18 : tie.Need-cast-t18
+cast-t18 c = let k = known (c .before) in omega (arith, c .if2 .taken, points k, sizes _ (found k .0) .points)
 
 returns-3 : tie.Need-returns-3
 returns-3 c =
@@ -117,10 +132,13 @@ check-spec =
     enum-told
     returns
     returns-2
+    array-borrow-prefix-places
+    slice-aggregate-clear
+    clear-requires
     array-share-prefix-places
     slice-aggregate-first-bad
     first-bad-requires
-    cast-t15
+    cast-t18
     returns-3
     returns-4
     returns-5

@@ -52,6 +52,10 @@ pub length-decimal : (n : ℕ) → n < 2 ^ 64 → length (decimal n) ≤ 20
 unfolding decimal
 length-decimal n h = length-decimalIn 19 (suc n) n (omega arith)
 
+pub length-byte : (n : ℕ) → n < 256 → length (decimal n) ≤ 3
+unfolding decimal
+length-byte n h = length-decimalIn 2 (suc n) n (omega arith)
+
 -- a number of one digit is written
 pub small-typed : (l : List ℕ) (at n : ℕ) → n < 10 → Typed l at (decimal n) (at + 1) (set l at (48 + n))
 small-typed l at n h = rw (decimal-small n h) (record { ends = refl; holds = refl })

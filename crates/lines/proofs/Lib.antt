@@ -1,3 +1,5 @@
 pub mod Texts
 pub mod Decimals
 pub mod Lines
+pub mod Sheets
+pub mod Verdicts

@@ -1,6 +1,6 @@
 -- Text written over a part of a list: one more character, and one text after another.
 -- Assumes nothing.
-use mathlib.Core.Path.{_≡_, sym, ap, _∙_}
+use mathlib.Core.Path.{_≡_, refl, sym, ap, _∙_}
 use mathlib.Core.List.{List, [], _∷_, _++_, map, map-append}
 use Prim.Native.Nat.{ℕ, suc, _+_, _<_}
 use native.Mathlib.Nat.{add-zero, add-suc, suc-add}
@@ -8,7 +8,7 @@ use native.Mathlib.Numerals.{add-one}
 use native.Mathlib.Omega.{arith}
 use lib.ListN.{length, getD, take, set, length-append, length-map}
 use lib.Seq.{sets, take-suc, length-take-le}
-use Rattle.lines.specs.Text.{Typed}
+use Rattle.lines.specs.Text.{joined, Typed}
 
 pub sets-append : (l : List ℕ) (at : ℕ) (s t : List ℕ) → sets l at (s ++ t) ≡ sets (sets l at s) (at + length s) t
 sets-append l at [] t = rw (add-zero at)
@@ -21,6 +21,20 @@ next {a} {b} {c} {s} {t} {i} {j} {k} p q = record {
   ends = omega (arith, p .ends, q .ends, length-append s t);
   holds = q .holds ∙ ap (λ (x : List ℕ). sets x j t) (p .holds) ∙ ap (λ (x : ℕ). sets (sets a i s) x t) (p .ends) ∙ sym (sets-append a i s t);
 }
+
+-- a loop that writes a text at each turn
+pub joined-more :
+    (text : ℕ → List ℕ) {l d e : List ℕ} {at k used end : ℕ} →
+    Typed l at (joined text k) used d →
+    Typed d used (text k) end e →
+    Typed l at (joined text (k + 1)) end e
+unfolding joined
+joined-more text {k = k} p q = rw (add-one k) (next p q)
+
+-- no turn so far
+pub joined-none : (text : ℕ → List ℕ) (l : List ℕ) (at : ℕ) → Typed l at (joined text 0) at l
+unfolding joined
+joined-none text l at = record { ends = sym (add-zero at); holds = refl }
 
 -- one more character
 pub one-more : (l d s : List ℕ) (at end v : ℕ) → d ≡ sets l at s → end ≡ at + length s → set d end v ≡ sets l at (s ++ (v ∷ []))

@@ -1,13 +1,13 @@
 -- The line of a record: "Block records and their program".
 use mathlib.Core.Bool.{cond}
 use mathlib.Core.List.{List, [], _∷_, _++_, map}
-use Prim.Native.Nat.{ℕ, zero, suc, _+_, _*_, _/_}
+use Prim.Native.Nat.{ℕ, _+_, _*_, _/_}
 use lib.Dec.{eqb, ltb}
 use lib.ListN.{length, replicate, take, drop}
 use Rattle.field.specs.Outcomes.{number, second}
 use Rattle.code.specs.Answers.{Answer}
 use Rattle.code.specs.Recovered.{recovered}
-use Rattle.lines.specs.Text.{glyph, decimal}
+use Rattle.lines.specs.Text.{glyph, decimal, joined}
 
 -- "the record's number in decimal .., a space, then `ok`, a space and 32 lower-case hexadecimal digits"
 unfoldable pub okLine : ℕ → List ℕ → List ℕ
@@ -29,11 +29,10 @@ answerLine n answer =
 unfoldable pub lineOf : ℕ → List ℕ → List ℕ
 lineOf n bytes = cond (ltb (length bytes) 64) (shortLine n (length bytes)) (answerLine n (recovered 4 37 bytes (replicate 32 0)))
 
--- the lines of the first k records
-unfoldable pub pageIn : ℕ → List ℕ → ℕ → List ℕ
-pageIn first bytes zero = []
-pageIn first bytes (suc k) = pageIn first bytes k ++ lineOf (first + k) (take 64 (drop (64 * k) bytes))
+-- the line of record k of a file
+abbrev pub numberedLine : ℕ → List ℕ → ℕ → List ℕ
+numberedLine first bytes k = lineOf (first + k) (take 64 (drop (64 * k) bytes))
 
 -- "a file is records end to end": the lines of all records, the first with the number `first`
 unfoldable pub pageOf : ℕ → List ℕ → List ℕ
-pageOf first bytes = pageIn first bytes ((length bytes + 63) / 64)
+pageOf first bytes = joined (numberedLine first bytes) ((length bytes + 63) / 64)

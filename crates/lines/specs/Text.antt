@@ -20,6 +20,11 @@ decimalIn (suc k) n = cond (ltb n 10) [] (decimalIn k (n / 10)) ++ ((48 + n % 10
 unfoldable pub decimal : ℕ → List ℕ
 decimal n = decimalIn (suc n) n
 
+-- the texts of the numbers below k, one after another
+unfoldable pub joined : (ℕ → List ℕ) → ℕ → List ℕ
+joined text zero = []
+joined text (suc k) = joined text k ++ text k
+
 -- what a function leaves that writes a text from `at` on and answers the place after it; all else in the slice is as before
 pub record Typed (before : List ℕ) (at : ℕ) (text : List ℕ) (end : ℕ) (after : List ℕ) : Type 0 where
   pub ends : end ≡ at + length text

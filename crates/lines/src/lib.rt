@@ -1,4 +1,5 @@
-// The lines that the program `blocks` prints.
+// The text that the programs `blocks` (here) and `page` (`sheet`) print.
+pub mod sheet;
 pub mod text;
 
 ghost use mathlib.Core.Path.{_≡_};

@@ -3,7 +3,7 @@
 use crate::code;
 use crate::outcome::Outcome;
 
-const RECORD_LENGTH: usize = 64;
+pub(crate) const RECORD_LENGTH: usize = 64;
 const CURVE_NUMBER: u8 = 4;
 const ORDER: u8 = 37;
 const MESSAGE_LENGTH: usize = 32;
@@ -18,14 +18,20 @@ fn line(number: usize, part: &[u8]) -> String {
     if part.len() < RECORD_LENGTH {
         return format!("{number} short {}\n", part.len());
     }
-    let mut message = [0; MESSAGE_LENGTH];
-    let outcome = code::recover(CURVE_NUMBER, ORDER, part, &mut message);
+    let (outcome, message) = recovered(part);
     if outcome != Outcome::ACCEPTED {
         return format!("{number} no {} {}\n", outcome.number, outcome.second);
     }
     // A symbol of this field is below 16, so it is one digit.
     let digits: String = message.iter().map(|symbol| format!("{symbol:x}")).collect();
     format!("{number} ok {digits}\n")
+}
+
+/// A record as a broken word: what recovery says, and the message.
+pub(crate) fn recovered(record: &[u8]) -> (Outcome, [u8; MESSAGE_LENGTH]) {
+    let mut message = [0; MESSAGE_LENGTH];
+    let outcome = code::recover(CURVE_NUMBER, ORDER, record, &mut message);
+    (outcome, message)
 }
 
 #[cfg(test)]

@@ -17,5 +17,7 @@ pub mod file_pair;
 pub mod generator;
 mod linear;
 pub mod outcome;
+pub mod page;
+pub mod record_sample;
 pub mod sample;
 pub mod session;

@@ -5,22 +5,22 @@ use Prim.Native.Nat.{_+_, _-_, _*_, _≤_, _<_}
 use native.Mathlib.Omega.{arith}
 use borrow.Author.Needs.{needs}
 use lib.ListN.{length}
-use Rattle.lines.specs.Text.{Typed}
-use Rattle.lines.specs.Line.{pageIn}
-use Rattle.lines.proofs.Lines.{page-more, page-end}
+use Rattle.lines.specs.Text.{joined, Typed}
+use Rattle.lines.specs.Line.{numberedLine}
+use Rattle.lines.proofs.Texts.{joined-none, joined-more}
+use Rattle.lines.proofs.Lines.{page-end}
 use Rattle.lines.proofs.page.Statement.{statement}
 use Rattle.lines.proofs.page.Tie as tie
 
 abbrev Inv-loop : tie.InvT-loop
 Inv-loop first blocks out₀ k₀ at₀ used₀ out k at used =
-    (at ≡ 64 * k) × (at < length blocks + 64) × (used ≤ 66 * k) × (length out ≡ length out₀) × Typed out₀ 0 (pageIn first blocks k) used out
+    (at ≡ 64 * k) × (at < length blocks + 64) × (used ≤ 66 * k) × (length out ≡ length out₀) × Typed out₀ 0 (joined (numberedLine first blocks) k) used out
 
 abbrev μ-loop : tie.MeasureT-loop
 μ-loop first blocks out₀ k₀ at₀ used₀ out k at used = length blocks + 64 - at
 
 loop-holds : tie.Need-loop-holds Inv-loop μ-loop
-unfolding pageIn
-loop-holds c = (refl, omega arith, omega arith, refl, record { ends = refl; holds = refl })
+loop-holds c = (refl, omega arith, omega arith, refl, joined-none _ _ _)
 
 block-end-requires : tie.Need-block-end-requires Inv-loop μ-loop
 block-end-requires c κs = omega arith
@@ -61,7 +61,7 @@ loop-again c =
       omega arith,
       omega (arith, r .ensures .1, l .inv .2),
       r .kept .1 .1 .1 .0 ∙ l .inv .3,
-      page-more (a .first) (a .blocks .now) (a .out .now) (l .out) (r .last .1 .1 .1 .0) _ (l .k) (l .used) (r .result) (l .inv .4) (rw (sym (l .inv .0)) (b .ensures .2)) (r .ensures .0),
+      joined-more (numberedLine (a .first) (a .blocks .now)) (l .inv .4) (rw (sym (l .inv .0), sym (b .ensures .2)) (r .ensures .0)),
     )
 
 same-length : tie.Need-same-length Inv-loop μ-loop

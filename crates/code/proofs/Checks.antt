@@ -34,9 +34,6 @@ pub bad-gap : (Q x : ℕ) → Q ≤ x → (x ≡ 255 → ⊥) → (gaps : Bool) 
 bad-gap Q x l n true = rw (le-leb Q x l, ne-eqb x 255 n)
 bad-gap Q x l n false = rw (le-leb Q x l)
 
-pub bad-symbol : (Q x : ℕ) → Q ≤ x → badValue false Q x ≡ true
-bad-symbol Q x l = rw (le-leb Q x l)
-
 pub symbol-of-good : (Q x : ℕ) → badValue false Q x ≡ false → x < Q
 symbol-of-good Q x e = go (true-or-false (leb Q x))
   where

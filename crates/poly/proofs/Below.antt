@@ -50,10 +50,6 @@ count-insert (suc n) i p p′ l f t h = go (ℕ-discrete n i) (λ b. count-inser
         rw (e, oneIf-true (p′ i) t, oneIf-false (p i) f, ← e, same) (omega arith)
     go (no d) ih = rw (h n (omega arith) d, ih (omega arith)) (omega arith)
 
-pub count-suc : (s : ℕ → Bool) (n : ℕ) → count s (below (suc n)) ≡ oneIf (s n) + count s (below n)
-unfolding count below
-count-suc s n = refl
-
 -- t is not p
 pub other : ℕ → ℕ → Bool
 other p t = not (eqb t p)

@@ -1,7 +1,7 @@
 -- The elements that a filter keeps.
 -- Assumes nothing.
 use mathlib.Core.Path.{_≡_, refl}
-use mathlib.Core.Logic.{_↔_, _⊎_, inl, inr}
+use mathlib.Core.Logic.{_⊎_, inl, inr}
 use mathlib.Core.Bool.{Bool, true, false, cond}
 use mathlib.Core.List.{List, [], _∷_, List·Memᴰ as Mem, List·Memᴰ·head as head, List·Memᴰ·tail as tail}
 use mathlib.Core.List.{List·Memᴰ·cases-cons as cases-cons, List·Memᴰ·not-nil as not-nil}
@@ -10,8 +10,6 @@ use native.Mathlib.Omega.{arith}
 use lib.Dec.{T}
 use lib.ListN.{length}
 use Rattle.poly.specs.Lists.{oneIf, Nodup, count, filter}
-use Rattle.poly.proofs.Bools.{same-test}
-use Rattle.poly.proofs.Lists.{count-cong}
 
 module _ {A : Type 0} where
   pub mem-filter : (p : A → Bool) (x : A) (xs : List A) → Mem x xs → T (p x) → Mem x (filter p xs)
@@ -52,7 +50,3 @@ module _ {A : Type 0} where
       go : (b : Bool) → length (filter p xs) ≡ count p xs → length (cond b (x ∷ filter p xs) (filter p xs)) ≡ oneIf b + count p xs
       go true ih = omega arith
       go false ih = omega arith
-
-  -- two tests that pass the same elements pass as many
-  pub count-iff : (p r : A → Bool) (l : List A) → ((x : A) → Mem x l → T (p x) ↔ T (r x)) → count p l ≡ count r l
-  count-iff p r l h = count-cong p r l (λ x m. let e = h x m in same-test (p x) (r x) (e .0) (e .1))

@@ -19,9 +19,9 @@ use Rattle.poly.specs.Systems.{System, Satisfies, rank, Full, Solves}
 use Rattle.poly.proofs.Bools.{implies, implied, same-test}
 use Rattle.poly.proofs.Lists.{count-map, count-flatMap, count-le, count-every, count-none, count-one, count-cong, every-of-count, two-of-count}
 use Rattle.poly.proofs.Below.{length-below, mem-below, of-mem-below, nodup-below}
-use Rattle.poly.proofs.Messages.{getD-snoc, getD-snoc-last, tabulate, getD-tabulate, vector-snoc, vector-ext, of-mem-all, nodup-all}
+use Rattle.poly.proofs.Messages.{getD-snoc, getD-snoc-last, vector-snoc, vector-ext, of-mem-all, nodup-all}
 use Rattle.poly.proofs.Triangular.{Triangular, Follows, next, triangular-fewer}
-use Rattle.poly.proofs.Triangular.{follows-suc, follows-fewer, follows-local, follows-unique, next-local, next-lt, satisfies-local, satisfies-follows}
+use Rattle.poly.proofs.Triangular.{follows-suc, follows-fewer, follows-local, follows-unique, next-local, next-lt, satisfies-follows}
 
 -- v satisfies the system, as a test
 unfoldable pub satisfies : Field → ℕ → System → (ℕ → ℕ) → Bool
@@ -42,10 +42,6 @@ module _ (F : Field) (S : System) where
   to-satisfies k v h =
       to-every k (λ p. not (S .present p) || eqb (dot F k (S .row p) v) (S .rhs p))
       (λ p l. implies (S .present p) _ (λ t. rw (h .holds p l t) (eqb-refl (S .rhs p))))
-
-  -- a function that satisfies a system, as a vector
-  pub satisfies-tabulate : (k : ℕ) (v : ℕ → ℕ) → Satisfies F k S v → Satisfies F k S (entry (tabulate k v))
-  satisfies-tabulate k v = satisfies-local F S k v (entry (tabulate k v)) (λ j l. sym (getD-tabulate k v j l))
 
   -- ---- one unknown more
 

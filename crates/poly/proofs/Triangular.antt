@@ -75,9 +75,6 @@ module _ (F : Field) (S : System) where
 
   -- ---- what satisfies
 
-  pub satisfies-local : (k : ℕ) (v w : ℕ → ℕ) → ((j : ℕ) → j < k → v j ≡ w j) → Satisfies F k S v → Satisfies F k S w
-  satisfies-local k v w e h = record { holds = λ p l t. sym (dot-local F k (S .row p) v w e) ∙ h .holds p l t }
-
   module _ (k : ℕ) (tri : Triangular F k S) where
     pub next-lt : (p : ℕ) → p < k → T (S .present p) → (v : ℕ → ℕ) → next F S p v < F .size
     unfolding next

@@ -27,9 +27,9 @@ fn print_answer(op: u8, outcome: Outcome) {
     io::write_all(STDOUT_FILENO, &[b' ']);
 }
 
-// Two hexadecimal digits for each of the first 72 values, and the end of the line.
-fn print_values(values: &[u8]) {
-    let mut text = [10u8; 145];
+// Two hexadecimal digits for each of the first 72 values, and the byte after them.
+fn print_values(values: &[u8], after: u8) {
+    let mut text = [after; 145];
     let mut at = 0;
     let mut j = 0;
     let n = room(values.len());
@@ -75,7 +75,7 @@ fn run_on_slices(
 fn slice_answer(op: u8, q: u8, m: u8, session: Session, input: &[u8], output: &mut [u8]) {
     let outcome = run_on_slices(op, q, m, session, input, output);
     print_answer(op, outcome);
-    print_values(output);
+    print_values(output, b'\n');
 }
 
 fn slice_case(session: Session, record: [u8; 160]) {
@@ -92,18 +92,21 @@ fn slice_case(session: Session, record: [u8; 160]) {
     );
 }
 
-// A session with the places of a record.
+// A session with the places and rounds of a record.
 fn raw_session(record: [u8; 160]) -> Session {
     let mut places = [0u8; 64];
+    let mut rounds = [0u8; 64];
     let mut j = 0;
     while j < 64 {
         places[j] = record[8 + j];
+        rounds[j] = record[80 + j];
         j += 1;
     }
     Session {
         q: record[1],
         m: record[2],
         places,
+        rounds,
     }
 }
 
@@ -114,7 +117,7 @@ fn session_turn(session: Session, record: [u8; 160]) -> Turn {
             session: raw_session(record),
             outcome: Outcome::Done,
         },
-        _ => session.arrive(record[5], record[6]),
+        _ => session.arrive(record[5], record[6], record[7]),
     }
 }
 
@@ -123,12 +126,14 @@ fn session_case(session: Session, record: [u8; 160]) -> Session {
     let next = turn.session;
     let outcome = turn.outcome;
     let places = next.places;
+    let rounds = next.rounds;
     print_answer(record[0], outcome);
     print_number(next.q);
     io::write_all(STDOUT_FILENO, &[b' ']);
     print_number(next.m);
     io::write_all(STDOUT_FILENO, &[b' ']);
-    print_values(&places);
+    print_values(&places, b' ');
+    print_values(&rounds, b'\n');
     next
 }
 

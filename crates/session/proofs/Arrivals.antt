@@ -22,6 +22,7 @@ use Rattle.code.specs.Answers.{answered}
 use Rattle.code.specs.Recovered.{recovered}
 use Rattle.code.proofs.Checks.{order-rest, order-curve, order-high, order-passed}
 use Rattle.code.proofs.Recoveries.{recovered-refused}
+use Rattle.session.specs.declared.Kept.{Kept}
 use Rattle.session.specs.declared.Session.{Session}
 use Rattle.session.specs.Opened.{fresh, opened}
 use Rattle.session.specs.Arrived.{cleared, standing, kept, arrivalChecks, turn, with, arrived}
@@ -117,20 +118,23 @@ module _ (s : Session) (place symbol : ℕ) where
 
   -- ---- an arrival
 
-  pub arrived-refused : (o : Outcome) → arrivalChecks s place symbol ≡ o → eqb (number o) 0 ≡ false → arrived s place symbol ≡ turn s o
-  unfolding arrived
-  arrived-refused o e n = rw (e, n)
+  module _ (round : ℕ) where
+    pub arrived-refused : (o : Outcome) → arrivalChecks s place symbol ≡ o → eqb (number o) 0 ≡ false
+        → arrived s place symbol round ≡ turn s o
+    unfolding arrived
+    arrived-refused o e n = rw (e, n)
 
-  pub arrived-kept : (o : Outcome) → o ≡ arrivalChecks s place symbol → o ≡ Done
-      → (x : ℕ) → x ≡ kept (getD (s .places) place 0) symbol → arrived s place symbol ≡ turn (with s place x) o
-  unfolding arrived
-  arrived-kept o is e x f = rw (← is, e, f)
+    pub arrived-kept : (o : Outcome) → o ≡ arrivalChecks s place symbol → o ≡ Done
+        → (k : Kept) → k ≡ kept (getD (s .places) place 0) (getD (s .rounds) place 0) symbol round
+        → arrived s place symbol round ≡ turn (with s place k) o
+    unfolding arrived
+    arrived-kept o is e k f = rw (← is, e, f)
 
 -- "or as it came": whatever the session, a refused arrival changes nothing
-pub arrived-as-it-came : (s : Session) (place symbol : ℕ) → eqb (number (arrived s place symbol .outcome)) 0 ≡ false
-    → arrived s place symbol .session ≡ s
+pub arrived-as-it-came : (s : Session) (place symbol round : ℕ) → eqb (number (arrived s place symbol round .outcome)) 0 ≡ false
+    → arrived s place symbol round .session ≡ s
 unfolding arrived
-arrived-as-it-came s place symbol e =
+arrived-as-it-came s place symbol round e =
     elim (true-or-false (eqb (number (arrivalChecks s place symbol)) 0)) [
       | inl t ↦ let never = rw t at e in let z : _≡_ {A = ℕ} 0 1 = cc in absurd (omega arith)
       | inr t ↦ rw t

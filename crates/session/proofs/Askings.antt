@@ -21,13 +21,13 @@ use Rattle.session.specs.Slate.{Slate}
 use Rattle.session.proofs.Steps.{seen, none-bad, Mirrors, sees}
 
 module _ (q m : ℕ) (curve : IsCurve q) (order : m < q * q * q)
-    (places : List ℕ) (slate : Slate) (h : Mirrors q places slate) (slice : List ℕ) where
+    (places rounds : List ℕ) (slate : Slate) (h : Mirrors q places rounds slate) (slice : List ℕ) where
   abbrev now : Session
-  now = record { q = q; m = m; places = places }
+  now = record { q = q; m = m; places = places; rounds = rounds }
 
   is-recovered : asked now slice ≡ recovered q m (map seen slate) slice
   unfolding asked
-  is-recovered = rw (sees q curve places slate h)
+  is-recovered = rw (sees q curve places rounds slate h)
 
   long : length (map seen slate) ≡ q * q * q
   long = length-map slate seen ∙ h .len

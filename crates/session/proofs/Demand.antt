@@ -32,8 +32,8 @@ follow : (q m : ℕ) → IsCurve q → m < q * q * q → (session : Session) (sl
     → Match q m (sessionFrom session events) (slateFrom q slate events)
 unfolding sessionFrom slateFrom
 follow q m curve order session slate h [] = h
-follow q m curve order session slate h (Arrival p s ∷ rest) =
-    follow q m curve order (arrived session p s .session) (after q slate p s) (step q m curve order session slate h p s .next) rest
+follow q m curve order session slate h (Arrival p s r ∷ rest) =
+    follow q m curve order (arrived session p s r .session) (after q slate p s r) (step q m curve order session slate h p s r .next) rest
 follow q m curve order session slate h (Asking slice ∷ rest) = follow q m curve order session slate h rest
 
 both : {A B C : Type 0} → A ↔ B → B ↔ C → A ↔ C
@@ -60,18 +60,18 @@ module _ (q m : ℕ) (accepted : Says (opened q m .outcome) 0 0) where
     heard = readingOf q m (map seen slate)
 
     asks : (slice : List ℕ) → length slice ≡ size q m → asked (sessionAfter q m events) slice ≡ told heard slice
-    asks slice e = let h = along events in rw (h .is) (asks-told q m curve order (h .places) slate (h .mirrors) slice e)
+    asks slice e = let h = along events in rw (h .is) (asks-told q m curve order (h .places) (h .rounds) slate (h .mirrors) slice e)
 
     short : (slice : List ℕ) → (length slice ≡ size q m → ⊥) → asked (sessionAfter q m events) slice ≡ answered BadRoom slice
-    short slice n = let h = along events in rw (h .is) (asks-room q m curve order (h .places) slate (h .mirrors) slice n)
+    short slice n = let h = along events in rw (h .is) (asks-room q m curve order (h .places) (h .rounds) slate (h .mirrors) slice n)
 
     claim : Claim q m events
     claim =
         let h = along events .mirrors in
         record {
-          arrival = λ before rest p s e.
-              both (says (arrived (sessionAfter q m before) p s .outcome) Done)
-              (step q m curve order (sessionAfter q m before) (slateAfter q before) (along before) p s .answered);
+          arrival = λ before rest p s r e.
+              both (says (arrived (sessionAfter q m before) p s r .outcome) Done)
+              (step q m curve order (sessionAfter q m before) (slateAfter q before) (along before) p s r .answered);
           gives = λ slice e v.
               let w = both (told-message heard slice v) (one-fits q m curve slate (h .len) (h .small) v) in
               let is = says (told heard slice .outcome) Done in

@@ -1,4 +1,4 @@
--- A list of arrivals that is read two bytes at a time.
+-- A list of arrivals that is read three bytes at a time.
 -- Assumes nothing.
 use mathlib.Core.Bool.{false}
 use mathlib.Core.List.{List, [], _∷_}
@@ -23,20 +23,22 @@ use Rattle.session.specs.Replayed.{decoded, replayed}
 
 -- what is left of the list from `at` on: one more arrival, or none
 module _ (s : Session) (list : List ℕ) (at : ℕ) where
-  pub receive-turn : at + 1 < length list → (t : Turn) → t ≡ arrived s (getD list at 0) (getD list (at + 1) 0)
-      → sessionFrom s (decoded (drop at list)) ≡ sessionFrom (t .session) (decoded (drop (at + 2) list))
+  pub receive-turn : at + 2 < length list → (t : Turn) → t ≡ arrived s (getD list at 0) (getD list (at + 1) 0) (getD list (at + 2) 0)
+      → sessionFrom s (decoded (drop at list)) ≡ sessionFrom (t .session) (decoded (drop (at + 3) list))
   unfolding sessionFrom decoded
   receive-turn l t e =
       let two : at + 2 ≡ suc (suc at) = omega arith in
-      rw (e, add-one at, two, drop-cons list at 0 (omega arith), drop-cons list (suc at) 0 (omega arith))
+      let three : at + 3 ≡ suc (suc (suc at)) = omega arith in
+      rw (e, add-one at, two, three, drop-cons list at 0 (omega arith), drop-cons list (suc at) 0 (omega arith), drop-cons list (suc (suc at)) 0 (omega arith))
 
-  short : (rest : List ℕ) → length rest ≤ 1 → sessionFrom s (decoded rest) ≡ s
+  short : (rest : List ℕ) → length rest ≤ 2 → sessionFrom s (decoded rest) ≡ s
   unfolding sessionFrom decoded
   short [] l = refl
   short (p ∷ []) l = refl
-  short (p ∷ x ∷ rest) l = absurd (omega arith)
+  short (p ∷ x ∷ []) l = refl
+  short (p ∷ x ∷ r ∷ rest) l = absurd (omega arith)
 
-  pub receive-end : length list - at ≤ 1 → sessionFrom s (decoded (drop at list)) ≡ s
+  pub receive-end : length list - at ≤ 2 → sessionFrom s (decoded (drop at list)) ≡ s
   receive-end l = short (drop at list) (rw (length-drop at list) l)
 
 -- the turn that opening hands back, and the session after the arrivals

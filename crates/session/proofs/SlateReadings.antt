@@ -39,10 +39,10 @@ module _ (q m : ℕ) (curve : IsCurve q) (slate : Slate) (len : length slate ≡
   fits-iff v = (
     λ h. record {
       symbols = h .vector;
-      agree = λ p s e.
-          let l = place-lt slate p s e in
-          let here : getD broken p 0 ≡ s = at-place p l (symbol s) e in
-          h .fits .at p (omega (arith, length-map slate seen)) (λ z. omega (arith, small p s e, sizes q curve .symbols)) ∙ here;
+      agree = λ p s r e.
+          let l = place-lt slate p s r e in
+          let here : getD broken p 0 ≡ s = at-place p l (symbol s r) e in
+          h .fits .at p (omega (arith, length-map slate seen)) (λ z. omega (arith, small p s r e, sizes q curve .symbols)) ∙ here;
     },
     λ h. record { vector = h .symbols; fits = record { at = λ p l n. go h p (omega (arith, length-map slate seen)) n (getD slate p blank) refl } },
   )
@@ -50,8 +50,8 @@ module _ (q m : ℕ) (curve : IsCurve q) (slate : Slate) (len : length slate ≡
       go : FitsSlate q m slate v → (p : ℕ) → p < length slate → (getD broken p 0 ≡ 255 → ⊥) → (o : Place) → getD slate p blank ≡ o
           → getD (word v) p 0 ≡ getD broken p 0
       go h p l n blank e = absurd (n (at-place p l blank e))
-      go h p l n struck e = absurd (n (at-place p l struck e))
-      go h p l n (symbol s) e = h .agree p s e ∙ sym (at-place p l (symbol s) e)
+      go h p l n (struck r) e = absurd (n (at-place p l (struck r) e))
+      go h p l n (symbol s r) e = h .agree p s r e ∙ sym (at-place p l (symbol s r) e)
 
   fit-list : ListOf (FitsSlate q m slate) (fitting (q * q) (size q m) word broken)
   fit-list =
@@ -63,8 +63,8 @@ module _ (q m : ℕ) (curve : IsCurve q) (slate : Slate) (len : length slate ≡
     where
       go : (p : ℕ) → p < length slate → (o : Place) → getD slate p blank ≡ o → (getD broken p 0 ≡ 255) ⊎ (getD broken p 0 < q * q)
       go p l blank e = inl (at-place p l blank e)
-      go p l struck e = inl (at-place p l struck e)
-      go p l (symbol s) e = inr (rw (at-place p l (symbol s) e) (small p s e))
+      go p l (struck r) e = inl (at-place p l (struck r) e)
+      go p l (symbol s r) e = inr (rw (at-place p l (symbol s r) e) (small p s r e))
 
   powers : PowerOrNone (q * q) (length (fitting (q * q) (size q m) word broken))
   powers = rw (length-fitting (q * q) (size q m) word broken) (facts q m curve .power broken is-broken)
@@ -92,7 +92,7 @@ module _ (q m : ℕ) (curve : IsCurve q) (slate : Slate) (len : length slate ≡
       (omega (arith, length-held 0 slate))
       (λ p h.
       let w = of-mem-held 0 slate p h in
-      let e : p ≡ w .0 = omega (arith, w .2) in (
-        omega (arith, place-lt slate (w .0) (w .1) (w .3)),
-        rw e (two .one-has .agree (w .0) (w .1) (w .3) ∙ sym (two .other-has .agree (w .0) (w .1) (w .3))),
+      let e : p ≡ w .0 = omega (arith, w .3) in (
+        omega (arith, place-lt slate (w .0) (w .1) (w .2) (w .4)),
+        rw e (two .one-has .agree (w .0) (w .1) (w .2) (w .4) ∙ sym (two .other-has .agree (w .0) (w .1) (w .2) (w .4))),
       )))

@@ -31,27 +31,42 @@ pub record Row : Type 0 where
 
 -- zeros at 0, 4 and 7, and besides an asking, the same symbol again and a symbol that is none
 abbrev pub zeros : List Event
-zeros = Arrival 0 0 ∷ Arrival 4 0 ∷ Asking [] ∷ Arrival 7 0 ∷ Arrival 7 0 ∷ Arrival 5 4 ∷ []
+zeros = Arrival 0 0 0 ∷ Arrival 4 0 0 ∷ Asking [] ∷ Arrival 7 0 0 ∷ Arrival 7 0 0 ∷ Arrival 5 4 0 ∷ []
 
--- two different symbols at a place, and the first again
+-- two different symbols of round 3 at a place, and the first again
 abbrev pub strike : ℕ → List Event
-strike p = Arrival p 1 ∷ Arrival p 2 ∷ Arrival p 1 ∷ []
+strike p = Arrival p 1 3 ∷ Arrival p 2 3 ∷ Arrival p 1 3 ∷ []
 
 abbrev pub room : List ℕ
 room = 9 ∷ 9 ∷ 9 ∷ []
 
+-- asked at order 3 after the events
+abbrev pub asking : List Event → Answer
+asking events = asked (sessionAfter 2 3 events) room
+
+-- H with 1 at place 1 too
+abbrev pub whole : Answer
+whole = answered Done (0 ∷ 1 ∷ 1 ∷ [])
+
 abbrev pub rows : List Row
 rows =
     -- nothing arrived: r = k
-    record { ours = asked (sessionAfter 2 3 []) room; paper = answered (Several 3) room }
+    record { ours = asking []; paper = answered (Several 3) room }
     -- H, and with 1 at place 1 too
-    ∷ record { ours = asked (sessionAfter 2 3 zeros) room; paper = answered (Several 1) room }
-    ∷ record { ours = asked (sessionAfter 2 3 (zeros ++ (Arrival 1 1 ∷ []))) room; paper = answered Done (0 ∷ 1 ∷ 1 ∷ []) }
+    ∷ record { ours = asking zeros; paper = answered (Several 1) room }
+    ∷ record { ours = asking (zeros ++ (Arrival 1 1 0 ∷ [])); paper = whole }
     -- a struck place counts as missing: H with wrong symbols at place 2, and H with the 1 at place 1 struck out
-    ∷ record { ours = asked (sessionAfter 2 3 (strike 2 ++ (zeros ++ (Arrival 1 1 ∷ [])))) room; paper = answered Done (0 ∷ 1 ∷ 1 ∷ []) }
-    ∷ record { ours = asked (sessionAfter 2 3 (zeros ++ strike 1)) room; paper = answered (Several 1) room }
+    ∷ record { ours = asking (strike 2 ++ (zeros ++ (Arrival 1 1 0 ∷ []))); paper = whole }
+    ∷ record { ours = asking (zeros ++ strike 1); paper = answered (Several 1) room }
+    -- a struck place heard again, in its round and in a higher one
+    ∷ record { ours = asking (zeros ++ (strike 1 ++ (Arrival 1 1 3 ∷ []))); paper = answered (Several 1) room }
+    ∷ record { ours = asking (zeros ++ (strike 1 ++ (Arrival 1 1 4 ∷ []))); paper = whole }
+    -- differing symbols of other rounds, higher and lower
+    ∷ record { ours = asking (zeros ++ (Arrival 1 2 0 ∷ Arrival 1 1 1 ∷ Arrival 1 3 0 ∷ [])); paper = whole }
+    -- the same symbol raises the round
+    ∷ record { ours = asking (zeros ++ (Arrival 1 1 0 ∷ Arrival 1 1 2 ∷ Arrival 1 3 1 ∷ [])); paper = whole }
     -- two different symbols at order 0
-    ∷ record { ours = asked (sessionAfter 2 0 (Arrival 3 1 ∷ Arrival 6 2 ∷ [])) (7 ∷ []); paper = answered NoMessage (7 ∷ []) }
+    ∷ record { ours = asked (sessionAfter 2 0 (Arrival 3 1 0 ∷ Arrival 6 2 0 ∷ [])) (7 ∷ []); paper = answered NoMessage (7 ∷ []) }
     ∷ []
 
 pub values : map (λ (r : Row). r .ours) rows ≡ map (λ (r : Row). r .paper) rows

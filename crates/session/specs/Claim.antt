@@ -18,15 +18,15 @@ use Rattle.session.specs.Arrived.{arrived}
 use Rattle.session.specs.Asked.{asked}
 use Rattle.session.specs.Slate.{Slate, blank, symbol, blankSlate, takes, after, held}
 
--- "Arrivals have any place and symbol, and each asking is lent a slice of any length."
+-- "Arrivals have any place and symbol, and each asking is lent a slice of any length." An arrival also has any round (T-04).
 pub data Event : Type 0 where
-  Arrival : ℕ → ℕ → Event
+  Arrival : ℕ → ℕ → ℕ → Event
   Asking : List ℕ → Event
 
 -- "An asking, refused or not, leaves the slate as it was."
 unfoldable pub slateFrom : ℕ → Slate → List Event → Slate
 slateFrom q slate [] = slate
-slateFrom q slate (Arrival p s ∷ rest) = slateFrom q (after q slate p s) rest
+slateFrom q slate (Arrival p s r ∷ rest) = slateFrom q (after q slate p s r) rest
 slateFrom q slate (Asking slice ∷ rest) = slateFrom q slate rest
 
 abbrev pub slateAfter : ℕ → List Event → Slate
@@ -36,7 +36,7 @@ slateAfter q events = slateFrom q (blankSlate q) events
 -- the opened one."
 unfoldable pub sessionFrom : Session → List Event → Session
 sessionFrom session [] = session
-sessionFrom session (Arrival p s ∷ rest) = sessionFrom (arrived session p s .session) rest
+sessionFrom session (Arrival p s r ∷ rest) = sessionFrom (arrived session p s r .session) rest
 sessionFrom session (Asking slice ∷ rest) = sessionFrom session rest
 
 abbrev pub sessionAfter : (q m : ℕ) → List Event → Session
@@ -47,7 +47,7 @@ module _ (q m : ℕ) where
   -- A struck place holds none: it "counts as missing" (T-01).
   pub record FitsSlate (slate : Slate) (v : List ℕ) : Type 0 where
     pub symbols : Vector (q * q) (size q m) v
-    pub agree : (p s : ℕ) → getD slate p blank ≡ symbol s → getD (wordOf q (columnsOf q) m v) p 0 ≡ s
+    pub agree : (p s r : ℕ) → getD slate p blank ≡ symbol s r → getD (wordOf q (columnsOf q) m v) p 0 ≡ s
 
   -- what asking answers after the events
   abbrev pub answer : List Event → List ℕ → Answer
@@ -58,8 +58,8 @@ module _ (q m : ℕ) where
   -- refusal 10 with r."
   pub record Claim (events : List Event) : Type 0 where
     -- "each arrival in it is accepted exactly when document 01's slate takes it"
-    pub arrival : (before rest : List Event) (p s : ℕ) → events ≡ before ++ (Arrival p s ∷ rest)
-        → Says (arrived (sessionAfter q m before) p s .outcome) 0 0 ↔ T (takes q (slateAfter q before) p s)
+    pub arrival : (before rest : List Event) (p s r : ℕ) → events ≡ before ++ (Arrival p s r ∷ rest)
+        → Says (arrived (sessionAfter q m before) p s r .outcome) 0 0 ↔ T (takes q (slateAfter q before) p s r)
     -- "after the list the reader, asked with a slice of the right length, gives a message exactly when it alone fits all symbols then on
     -- the slate"
     pub gives : (slice : List ℕ) → length slice ≡ size q m → (v : List ℕ)

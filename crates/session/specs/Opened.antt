@@ -9,9 +9,9 @@ use Rattle.code.specs.Checks.{orderChecks}
 use Rattle.session.specs.declared.Session.{Session}
 use Rattle.session.specs.declared.Turn.{Turn}
 
--- "A session holds q, m and 64 places. Opening marks all 64 missing."
+-- "A session holds q, m and 64 places. Opening marks all 64 missing." T-04: "A place that holds 255 has round 0".
 abbrev pub fresh : ℕ → ℕ → Session
-fresh q m = record { q = q; m = m; places = replicate 64 255 }
+fresh q m = record { q = q; m = m; places = replicate 64 255; rounds = replicate 64 0 }
 
 -- 1, 2. "A refused opening hands back q = 2, m = 0, all places 255."
 unfoldable pub opened : ℕ → ℕ → Turn

@@ -1,13 +1,25 @@
--- Two lists of events with the same arrivals: "The end state no longer depends on the order in which accepted symbols came" (T-01).
+-- What a list of events leaves doesn't depend on its order: "The end state no longer depends on the order in which accepted symbols came"
+-- (T-01), with the rounds of T-04 too.
 use mathlib.Core.Bool.{true}
 use mathlib.Core.List.{List, List·Memᴰ as Mem}
-use mathlib.Core.Logic.{_↔_}
+use mathlib.Core.Logic.{_↔_, _⊎_}
 use mathlib.Core.Path.{_≡_}
-use Prim.Native.Nat.{ℕ}
-use Rattle.session.specs.Slate.{within}
+use Prim.Native.Nat.{ℕ, _≤_, _<_}
+use Rattle.session.specs.Slate.{Place, blank, symbol, struck, within}
 use Rattle.session.specs.Claim.{Event, Arrival}
 
--- an arrival that the slate takes, and so the session accepts, is in both lists or in neither, in whatever order and however often; those
--- that aren't accepted, and the askings, are any
+-- the symbol s of round r came to p, by an arrival that the slate takes, and so the session accepts
+abbrev pub Came : ℕ → ℕ → List Event → ℕ → ℕ → Type 0
+Came q p events s r = (within q p s ≡ true) × Mem (Arrival p s r) events
+
+-- What a place of the slate is, where C says which symbols of which rounds came to it. Nothing came; or s is alone in the highest round; or
+-- two of the highest round differ.
+abbrev pub Stands : (ℕ → ℕ → Type 0) → Place → Type 0
+Stands C blank = (s r : ℕ) → C s r → ⊥
+Stands C (symbol s r) = C s r × ((t u : ℕ) → C t u → (u < r) ⊎ ((u ≡ r) × (t ≡ s)))
+Stands C (struck r) = (s : ℕ) × (t : ℕ) × C s r × C t r × (s ≡ t → ⊥) × ((x u : ℕ) → C x u → u ≤ r)
+
+-- the same symbols of the same rounds came in both lists, in whatever order and however often; the arrivals that aren't accepted, and the
+-- askings, are any
 pub record SameTaken (q : ℕ) (one other : List Event) : Type 0 where
-  pub at : (p s : ℕ) → within q p s ≡ true → Mem (Arrival p s) one ↔ Mem (Arrival p s) other
+  pub at : (p s r : ℕ) → within q p s ≡ true → Mem (Arrival p s r) one ↔ Mem (Arrival p s r) other

@@ -6,11 +6,12 @@ use Rattle.session.specs.Opened.{opened}
 use Rattle.session.specs.Asked.{asked}
 use Rattle.session.specs.Claim.{Event, Arrival, sessionAfter}
 
--- the arrivals that a slice lists, two bytes each, the place and the symbol; a last byte that stands alone is ignored
+-- the arrivals that a slice lists, three bytes each, the place, the symbol and the round; a rest of one or two bytes is ignored
 unfoldable pub decoded : List ℕ → List Event
 decoded [] = []
 decoded (p ∷ []) = []
-decoded (p ∷ s ∷ rest) = Arrival p s ∷ decoded rest
+decoded (p ∷ s ∷ []) = []
+decoded (p ∷ s ∷ r ∷ rest) = Arrival p s r ∷ decoded rest
 
 -- what asking answers after them; a refused opening ends it
 unfoldable pub replayed : ℕ → ℕ → List ℕ → List ℕ → Answer

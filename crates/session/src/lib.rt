@@ -10,11 +10,13 @@ use field::Curve;
 use field::Named;
 use field::Outcome;
 
-// q, m and the symbols that came, 255 where none did and 254 where two differed. Places from n on are never read.
+// q, m and for each place the symbol of the highest round that came, 255 where none did and 254 where two of that round
+// differed, and that round. Places from n on are never read, nor their rounds.
 pub struct Session {
     pub q: u8,
     pub m: u8,
     pub places: [u8; 64],
+    pub rounds: [u8; 64],
 }
 
 // What an opening or an arrival hands back.
@@ -31,6 +33,7 @@ fn fresh_of(q: u8, m: u8) -> Session
         q,
         m,
         places: [255; 64],
+        rounds: [0; 64],
     }
 }
 
@@ -47,17 +50,40 @@ pub fn open(q: u8, m: u8) -> Turn
     }
 }
 
-// What a place that holds `held` then holds, where the symbol arrives at it.
-fn keep(held: u8, symbol: u8) -> u8
-    ensures { λ r. ⌜ r ≡ kept held symbol ⌝ }
+// What a place holds, and of which round.
+struct Kept {
+    holds: u8,
+    round: u8,
+}
+
+// What a place that holds `held`, `highest` being its round, then holds where a symbol of a round arrives.
+fn keep(held: u8, highest: u8, symbol: u8, round: u8) -> Kept
+    ensures { λ r. ⌜ r ≡ kept held highest symbol round ⌝ }
 {
+    let came = Kept {
+        holds: symbol,
+        round,
+    };
+    let was = Kept {
+        holds: held,
+        round: highest,
+    };
     if held == 255 {
-        return symbol;
+        return came;
+    }
+    if highest < round {
+        return came;
+    }
+    if round < highest {
+        return was;
     }
     if held == symbol {
-        return held;
+        return was;
     }
-    254
+    Kept {
+        holds: 254,
+        round: highest,
+    }
 }
 
 fn cleared_of(x: u8) -> u8
@@ -107,13 +133,15 @@ impl Session {
         Outcome::Done
     }
 
-    pub fn arrive(mut self, place: u8, symbol: u8) -> Turn
-        ensures { λ r. ⌜ r ≡ arrived self place symbol ⌝ }
+    pub fn arrive(mut self, place: u8, symbol: u8, round: u8) -> Turn
+        ensures { λ r. ⌜ r ≡ arrived self place symbol round ⌝ }
     {
         let checked = self.check(place, symbol);
         if let Outcome::Done = checked {
             let at = place as usize;
-            self.places[at] = keep(self.places[at], symbol);
+            let kept = keep(self.places[at], self.rounds[at], symbol, round);
+            self.places[at] = kept.holds;
+            self.rounds[at] = kept.round;
             Turn {
                 session: self,
                 outcome: checked,

@@ -5,15 +5,15 @@ ghost use Rattle.session.specs.Replayed.{decoded, replayed};
 use crate::Session;
 use field::Outcome;
 
-// The session after the arrivals. Each has two bytes, its place and its symbol; a last byte that stands alone is ignored.
+// The session after the arrivals. Each has three bytes, its place, its symbol and its round; a rest of one or two bytes is ignored.
 fn receive(mut session: Session, arrivals: &[u8]) -> Session
     ensures { λ r. ⌜ r ≡ sessionFrom session (decoded (now (arrivals .entry))) ⌝ }
 {
     let mut at = 0;
-    while 1 < arrivals.len() - at {
-        let turn = session.arrive(arrivals[at], arrivals[at + 1]);
+    while 2 < arrivals.len() - at {
+        let turn = session.arrive(arrivals[at], arrivals[at + 1], arrivals[at + 2]);
         session = turn.session;
-        at += 2;
+        at += 3;
     }
     session
 }

@@ -12,7 +12,7 @@
 //! | 4 | the length of the output slice, 0 to 72 |
 //! | 5 | the first operand, or the place of an arrival |
 //! | 6 | the second operand, or the symbol of an arrival |
-//! | 7 | zero |
+//! | 7 | the round of an arrival |
 //! | 8 to 79 | the input, then zeros |
 //! | 80 to 151 | the output slice before the call, then zeros |
 //! | 152 to 159 | zeros |
@@ -26,10 +26,12 @@
 //!   with the symbol.
 //! - `o`: opening with q and m; what it hands back becomes the current
 //!   session. Before the first one it is that of a refused opening.
-//! - `s`: the current session becomes q, m and the first 64 input bytes.
+//! - `s`: the current session becomes q, m, the first 64 input bytes as its
+//!   places and the first 64 bytes of the output slice as their rounds.
 //! - `a`: an arrival at the current session; what it hands back becomes the
 //!   current session. The lines of `o`, `s` and `a` end with the current
-//!   session's q and m and its places, two hexadecimal digits each.
+//!   session's q and m, its places and its rounds, two hexadecimal digits
+//!   each.
 //! - `k`: the current session is asked with the output slice, and the line
 //!   ends as with `e`.
 //!
@@ -57,6 +59,7 @@ pub struct Case {
     pub m: u8,
     pub a: u8,
     pub b: u8,
+    pub round: u8,
     pub input: Vec<u8>,
     pub output: Vec<u8>,
 }
@@ -69,7 +72,7 @@ impl Case {
         let (input_length, output_length) = (input.len() as u8, output.len() as u8);
         let head = [self.op, self.q, self.m, input_length, output_length];
         record[..5].copy_from_slice(&head);
-        record[5..7].copy_from_slice(&[self.a, self.b]);
+        record[5..8].copy_from_slice(&[self.a, self.b, self.round]);
         record[INPUT_OFFSET..][..input.len()].copy_from_slice(input);
         record[OUTPUT_OFFSET..][..output.len()].copy_from_slice(output);
         record
@@ -84,6 +87,7 @@ impl Case {
             m: record[2],
             a: record[5],
             b: record[6],
+            round: record[7],
             input: record[INPUT_OFFSET..][..input_length].to_vec(),
             output: record[OUTPUT_OFFSET..][..output_length].to_vec(),
         }
@@ -104,6 +108,10 @@ impl Default for Runner {
 }
 
 impl Runner {
+    pub fn session(&self) -> &Session {
+        &self.session
+    }
+
     /// The line of a case, with its line feed.
     pub fn run(&mut self, case: &Case) -> String {
         let (outcome, rest) = match case.op {
@@ -130,11 +138,13 @@ impl Runner {
         let (session, outcome) = match case.op {
             b'o' => Session::open(case.q, case.m),
             b's' => (raw_session(case), Outcome::ACCEPTED),
-            _ => self.session.arrive(case.a, case.b),
+            _ => self.session.arrive(case.a, case.b, case.round),
         };
         self.session = session;
+        let Session { q, m, .. } = session;
         let places = hexadecimal(&session.places);
-        (outcome, format!("{} {} {places}", session.q, session.m))
+        let rounds = hexadecimal(&session.rounds);
+        (outcome, format!("{q} {m} {places} {rounds}"))
     }
 }
 
@@ -147,17 +157,22 @@ fn field_answer(case: &Case) -> (Outcome, String) {
     (outcome, symbol.to_string())
 }
 
-/// Places that the input doesn't reach are 0, as the record's bytes are there.
 fn raw_session(case: &Case) -> Session {
-    let mut places = [0; PLACE_COUNT];
-    for (place, &value) in places.iter_mut().zip(&case.input) {
-        *place = value;
-    }
     Session {
         q: case.q,
         m: case.m,
-        places,
+        places: one_byte_a_place(&case.input),
+        rounds: one_byte_a_place(&case.output),
     }
+}
+
+/// Places that the slice doesn't reach get 0, as the record's bytes are there.
+fn one_byte_a_place(slice: &[u8]) -> [u8; PLACE_COUNT] {
+    let mut bytes = [0; PLACE_COUNT];
+    for (byte, &value) in bytes.iter_mut().zip(slice) {
+        *byte = value;
+    }
+    bytes
 }
 
 fn hexadecimal(bytes: &[u8]) -> String {
@@ -191,11 +206,12 @@ mod tests {
             m: 3,
             a: 4,
             b: 5,
+            round: 11,
             input: vec![6, 7],
             output: vec![8, 9, 10],
         };
         let mut expected = [0; 160];
-        expected[..10].copy_from_slice(&[101, 2, 3, 2, 3, 4, 5, 0, 6, 7]);
+        expected[..10].copy_from_slice(&[101, 2, 3, 2, 3, 4, 5, 11, 6, 7]);
         expected[80..83].copy_from_slice(&[8, 9, 10]);
         assert_eq!(case.to_record(), expected);
         assert_eq!(Case::from_record(&expected), case);
@@ -268,12 +284,16 @@ mod tests {
     #[test]
     fn lines_before_any_opening() {
         let missing = "ff".repeat(63);
+        let no_round = "00".repeat(63);
         let cases = [
             session_case(b'k', 0, 0, &[9]),
-            session_case(b'a', 0, 3, &[]),
+            Case {
+                round: 7,
+                ..session_case(b'a', 0, 3, &[])
+            },
             session_case(b'k', 0, 0, &[9]),
         ];
-        let arrived = format!("a 0 0 2 0 03{missing}\n");
+        let arrived = format!("a 0 0 2 0 03{missing} 07{no_round}\n");
         assert_eq!(lines(&cases), ["k 10 1 09\n", &arrived, "k 0 0 03\n"]);
     }
 
@@ -290,12 +310,14 @@ mod tests {
             q: 3,
             m: 9,
             input: vec![1; 64],
+            output: vec![2; 63],
             ..Case::default()
         };
         let cases = [open, raw, session_case(b'a', 0, 0, &[])];
-        let opened = format!("o 2 0 2 0 {}\n", "ff".repeat(64));
-        let set = format!("s 0 0 3 9 {}\n", "01".repeat(64));
-        let arrived = format!("a 1 0 3 9 {}\n", "01".repeat(64));
+        let opened = format!("o 2 0 2 0 {} {}\n", "ff".repeat(64), "00".repeat(64));
+        let held = format!("{} {}00", "01".repeat(64), "02".repeat(63));
+        let set = format!("s 0 0 3 9 {held}\n");
+        let arrived = format!("a 1 0 3 9 {held}\n");
         assert_eq!(lines(&cases), [opened, set, arrived]);
     }
 }

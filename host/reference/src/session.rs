@@ -9,7 +9,8 @@ use crate::outcome::Outcome;
 /// The places that a session holds, for either curve.
 pub const PLACE_COUNT: usize = 64;
 
-/// Stands at a place where two different symbols came (request T-01).
+/// Stands at a place where two different symbols of its round came (requests
+/// T-01 and T-04).
 pub const STRUCK: u8 = 254;
 
 /// Every value is allowed, also one that no opening or arrival hands back.
@@ -18,6 +19,8 @@ pub struct Session {
     pub q: u8,
     pub m: u8,
     pub places: [u8; PLACE_COUNT],
+    /// The highest round heard at each place (request T-04).
+    pub rounds: [u8; PLACE_COUNT],
 }
 
 impl Session {
@@ -29,6 +32,7 @@ impl Session {
             q,
             m,
             places: [MISSING; PLACE_COUNT],
+            rounds: [0; PLACE_COUNT],
         }
     }
 
@@ -39,11 +43,11 @@ impl Session {
         }
     }
 
-    /// Hands the session back with the symbol stored or the place struck out,
-    /// or as it came.
-    pub fn arrive(self, place: u8, symbol: u8) -> (Session, Outcome) {
+    /// Hands the session back with the symbol and its round stored or the place
+    /// struck out, or as it came.
+    pub fn arrive(self, place: u8, symbol: u8, round: u8) -> (Session, Outcome) {
         match self.check_arrival(place, symbol) {
-            Ok(()) => (self.with_heard(place, symbol), Outcome::ACCEPTED),
+            Ok(()) => (self.with_heard(place, symbol, round), Outcome::ACCEPTED),
             Err(refusal) => (self, refusal),
         }
     }
@@ -69,15 +73,17 @@ impl Session {
         Ok(())
     }
 
-    /// A missing place takes the symbol; one that holds anything else than it
-    /// is struck out, and stays so.
-    fn with_heard(mut self, place: u8, symbol: u8) -> Session {
-        if let Some(held) = self.places.get_mut(usize::from(place)) {
-            if *held == MISSING {
-                *held = symbol;
-            } else if *held != symbol {
-                *held = STRUCK;
-            }
+    /// A missing place takes any symbol, and one that was heard a symbol of a
+    /// higher round. Else only a symbol of the same round counts: it strikes the
+    /// place out if that holds anything else.
+    fn with_heard(mut self, place: u8, symbol: u8, round: u8) -> Session {
+        let index = usize::from(place);
+        let (held, highest) = (self.places[index], self.rounds[index]);
+        if held == MISSING || round > highest {
+            self.places[index] = symbol;
+            self.rounds[index] = round;
+        } else if round == highest && held != symbol {
+            self.places[index] = STRUCK;
         }
         self
     }
@@ -104,18 +110,32 @@ mod tests {
     }
 
     fn refused_arrival(session: Session, place: u8, symbol: u8) -> Outcome {
-        let (after, outcome) = session.arrive(place, symbol);
+        let (after, outcome) = session.arrive(place, symbol, 255);
         assert_ne!(outcome, Outcome::ACCEPTED);
         assert_eq!(after, session);
         outcome
     }
 
+    /// Arrivals of round 0.
     fn after_arrivals(session: Session, arrivals: &[(u8, u8)]) -> Session {
-        arrivals.iter().fold(session, |session, &(place, symbol)| {
-            let (after, outcome) = session.arrive(place, symbol);
-            assert_eq!(outcome, Outcome::ACCEPTED);
-            after
-        })
+        let in_round_0 = |&(place, symbol)| (place, symbol, 0);
+        let arrivals: Vec<(u8, u8, u8)> = arrivals.iter().map(in_round_0).collect();
+        after_rounds(session, &arrivals)
+    }
+
+    /// Arrivals of a place, a symbol and a round.
+    fn after_rounds(session: Session, arrivals: &[(u8, u8, u8)]) -> Session {
+        arrivals
+            .iter()
+            .fold(session, |session, &(place, symbol, round)| {
+                let (after, outcome) = session.arrive(place, symbol, round);
+                assert_eq!(outcome, Outcome::ACCEPTED);
+                after
+            })
+    }
+
+    fn held_at(session: &Session, place: usize) -> (u8, u8) {
+        (session.places[place], session.rounds[place])
     }
 
     #[test]
@@ -135,6 +155,7 @@ mod tests {
                     assert_eq!((session.q, session.m), (2, 0));
                 }
                 assert_eq!(session.places, [255; 64]);
+                assert_eq!(session.rounds, [0; 64]);
             }
         }
     }
@@ -179,6 +200,7 @@ mod tests {
             q: 3,
             m: 64,
             places: [253; 64],
+            rounds: [0; 64],
         };
         assert_eq!(refused_arrival(session, 64, 16), Outcome::UNKNOWN_CURVE);
         session.q = 4;
@@ -194,7 +216,7 @@ mod tests {
     }
 
     #[test]
-    fn a_differing_symbol_strikes_the_place_out_for_good() {
+    fn a_differing_symbol_of_the_same_round_strikes_the_place_out() {
         let session = after_arrivals(opened(4, 37), &[(5, 1)]);
         let struck = after_arrivals(session, &[(5, 2)]);
         assert_eq!(struck.places[5], 254);
@@ -202,12 +224,48 @@ mod tests {
             assert_eq!(after_arrivals(struck, &[(5, symbol)]), struck);
         }
         let untouched = Session {
-            places: [255; PLACE_COUNT],
+            places: [MISSING; PLACE_COUNT],
             ..struck
         };
         let mut message = [9; 32];
         assert_eq!(struck.ask(&mut message), untouched.ask(&mut [9; 32]));
         assert_eq!(message, [9; 32]);
+    }
+
+    #[test]
+    fn the_round_is_looked_at_first() {
+        let session = after_rounds(opened(4, 37), &[(5, 1, 3)]);
+        assert_eq!(held_at(&session, 5), (1, 3));
+        let heard = |symbol, round| held_at(&after_rounds(session, &[(5, symbol, round)]), 5);
+        for symbol in [1, 2] {
+            assert_eq!(heard(symbol, 0), (1, 3));
+            assert_eq!(heard(symbol, 2), (1, 3));
+            assert_eq!(heard(symbol, 4), (symbol, 4));
+            assert_eq!(heard(symbol, 255), (symbol, 255));
+        }
+        assert_eq!(heard(1, 3), (1, 3));
+        assert_eq!(heard(2, 3), (254, 3));
+    }
+
+    #[test]
+    fn a_struck_place_keeps_its_round_until_a_higher_one() {
+        let struck = after_rounds(opened(4, 37), &[(5, 1, 3), (5, 2, 3)]);
+        for symbol in 0..16 {
+            let unchanged = after_rounds(struck, &[(5, symbol, 2), (5, symbol, 3)]);
+            assert_eq!(unchanged, struck);
+            let revived = after_rounds(struck, &[(5, symbol, 4)]);
+            assert_eq!(held_at(&revived, 5), (symbol, 4));
+        }
+    }
+
+    #[test]
+    fn a_missing_place_takes_any_round() {
+        let mut session = opened(4, 37);
+        session.rounds[5] = 200;
+        for round in [0, 199, 200, 201] {
+            let heard = after_rounds(session, &[(5, 1, round)]);
+            assert_eq!(held_at(&heard, 5), (1, round));
+        }
     }
 
     #[test]
@@ -252,13 +310,14 @@ mod tests {
     fn the_end_state_does_not_depend_on_the_order() {
         let mut generator = Generator::with_seed(34);
         for _ in 0..2_000 {
-            let arrival = |_| (generator.byte_from(0, 7), generator.byte_from(0, 3));
-            let arrivals: Vec<(u8, u8)> = (0..10).map(arrival).collect();
+            let mut up_to = |highest| generator.byte_from(0, highest);
+            let arrival = |_| (up_to(3), up_to(3), up_to(2));
+            let arrivals: Vec<(u8, u8, u8)> = (0..12).map(arrival).collect();
             let order = generator.permutation(arrivals.len());
-            let reordered: Vec<(u8, u8)> = order.iter().map(|&index| arrivals[index]).collect();
-            let end = after_arrivals(opened(2, 3), &arrivals);
-            assert_eq!(after_arrivals(opened(2, 3), &reordered), end);
-            assert_eq!(after_arrivals(end, &reordered), end);
+            let reordered: Vec<_> = order.iter().map(|&index| arrivals[index]).collect();
+            let end = after_rounds(opened(2, 3), &arrivals);
+            assert_eq!(after_rounds(opened(2, 3), &reordered), end);
+            assert_eq!(after_rounds(end, &reordered), end);
         }
     }
 
@@ -268,6 +327,7 @@ mod tests {
             q: 255,
             m: 8,
             places: [4; 64],
+            rounds: [255; 64],
         };
         let ask = |session: &Session, length: usize| {
             let mut message = vec![200; length];
@@ -295,9 +355,11 @@ mod tests {
         let mut session = opened(2, 3);
         for (index, held) in session.places.iter_mut().enumerate().skip(8) {
             *held = 190 + index as u8;
+            session.rounds[index] = index as u8;
         }
         let full = after_arrivals(session, &[(0, 0), (4, 0), (7, 0), (1, 1)]);
         assert_eq!(full.places[8..], session.places[8..]);
+        assert_eq!(full.rounds[8..], session.rounds[8..]);
         let mut message = [0; 3];
         assert_eq!(full.ask(&mut message), Outcome::ACCEPTED);
         assert_eq!(message, [0, 1, 1]);
@@ -309,61 +371,62 @@ mod tests {
     #[test]
     fn every_session_value_gets_an_answer() {
         let mut generator = Generator::with_seed(31);
-        for round in 0..20_000 {
+        for turn in 0..20_000 {
             let mut places = [0; PLACE_COUNT];
             places.fill_with(|| generator.byte());
+            let mut rounds = [0; PLACE_COUNT];
+            rounds.fill_with(|| generator.byte());
             let session = Session {
-                q: [2, 4, 0, 3][round % 4],
+                q: [2, 4, 0, 3][turn % 4],
                 m: generator.byte(),
                 places,
+                rounds,
             };
-            let (after, outcome) = session.arrive(generator.byte(), generator.byte());
+            let (place, symbol, round) = (generator.byte(), generator.byte(), generator.byte());
+            let (after, outcome) = session.arrive(place, symbol, round);
             assert!(outcome == Outcome::ACCEPTED || after == session);
-            let mut message = generator.bytes(round % 72);
+            let mut message = generator.bytes(turn % 72);
             session.ask(&mut message);
         }
     }
 
-    #[derive(Clone, Copy, PartialEq)]
-    enum Place {
-        Blank,
-        Holds(u8),
-        Struck,
-    }
-
-    /// The slate of the paper: worked out from the arguments alone.
+    /// The slate of the paper, worked out from the arguments alone: for each
+    /// place the symbols that were taken there, with their rounds.
     struct Slate {
-        places: Vec<Place>,
+        taken: Vec<Vec<(u8, u8)>>,
         field_size: u8,
     }
 
     impl Slate {
-        fn takes(&mut self, place: u8, symbol: u8) -> bool {
-            let Some(held) = self.places.get_mut(usize::from(place)) else {
+        fn takes(&mut self, place: u8, symbol: u8, round: u8) -> bool {
+            let Some(taken) = self.taken.get_mut(usize::from(place)) else {
                 return false;
             };
             if symbol >= self.field_size {
                 return false;
             }
-            *held = match *held {
-                Place::Blank => Place::Holds(symbol),
-                Place::Holds(first) if first == symbol => Place::Holds(first),
-                _ => Place::Struck,
-            };
+            taken.push((symbol, round));
             true
         }
 
-        fn fits(&self, word: &[u8]) -> bool {
-            let mut pairs = self.places.iter().zip(word);
-            pairs.all(|(place, symbol)| match place {
-                Place::Holds(held) => held == symbol,
-                _ => true,
+        /// The symbol that stands at each place: the only one of the highest
+        /// round there.
+        fn standing(&self) -> impl Iterator<Item = Option<u8>> + '_ {
+            self.taken.iter().map(|taken| {
+                let highest = taken.iter().map(|&(_, round)| round).max()?;
+                let mut of_it = taken.iter().filter(|&&(_, round)| round == highest);
+                let &(first, _) = of_it.next()?;
+                of_it.all(|&(symbol, _)| symbol == first).then_some(first)
             })
         }
 
+        fn fits(&self, word: &[u8]) -> bool {
+            let mut pairs = self.standing().zip(word);
+            pairs.all(|(held, &symbol)| held.is_none_or(|held| held == symbol))
+        }
+
         fn held(&self) -> usize {
-            let holds = |place: &&Place| matches!(place, Place::Holds(_));
-            self.places.iter().filter(holds).count()
+            self.standing().flatten().count()
         }
     }
 
@@ -380,7 +443,7 @@ mod tests {
         let (_, target) = words[generator.below(words.len())].clone();
         let mut session = opened(shape.q(), shape.m);
         let mut slate = Slate {
-            places: vec![Place::Blank; shape.n],
+            taken: vec![Vec::new(); shape.n],
             field_size: shape.field_size,
         };
         for _ in 0..20 {
@@ -392,8 +455,9 @@ mod tests {
             } else {
                 rubbish
             };
-            let (after, outcome) = session.arrive(place as u8, symbol);
-            let taken = slate.takes(place as u8, symbol);
+            let round = generator.byte_from(0, 2);
+            let (after, outcome) = session.arrive(place as u8, symbol, round);
+            let taken = slate.takes(place as u8, symbol, round);
             assert_eq!(outcome == Outcome::ACCEPTED, taken);
             session = after;
             ask_by_the_slate(&session, &slate, &words, shape);

@@ -9,10 +9,10 @@ use Rattle.cases.proofs.print_values.Statement.{statement}
 use Rattle.cases.proofs.print_values.Tie as tie
 
 abbrev Inv-loop : tie.InvT-loop
-Inv-loop values text₀ at₀ j₀ n text at j = (at ≡ 2 * j) × (j ≤ n) × (length text ≡ 145)
+Inv-loop values after text₀ at₀ j₀ n text at j = (at ≡ 2 * j) × (j ≤ n) × (length text ≡ 145)
 
 abbrev μ-loop : tie.MeasureT-loop
-μ-loop values text₀ at₀ j₀ n text at j = n - j
+μ-loop values after text₀ at₀ j₀ n text at j = n - j
 
 room-requires : tie.Need-room-requires Inv-loop μ-loop
 room-requires c κs = tt

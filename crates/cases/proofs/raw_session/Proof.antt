@@ -7,10 +7,10 @@ use Rattle.cases.proofs.raw_session.Statement.{statement}
 use Rattle.cases.proofs.raw_session.Tie as tie
 
 abbrev Inv-loop : tie.InvT-loop
-Inv-loop «record» places₀ j₀ places j = Unit {0}
+Inv-loop «record» places₀ rounds₀ j₀ places rounds j = Unit {0}
 
 abbrev μ-loop : tie.MeasureT-loop
-μ-loop «record» places₀ j₀ places j = 64 - j
+μ-loop «record» places₀ rounds₀ j₀ places rounds j = 64 - j
 
 loop-holds : tie.Need-loop-holds Inv-loop μ-loop
 loop-holds c = tt
@@ -24,6 +24,15 @@ array-read-places c = omega arith
 array-write-places : tie.Need-array-write-places Inv-loop μ-loop
 array-write-places c = search needs
 
+add-rounds : tie.Need-add-rounds Inv-loop μ-loop
+add-rounds c = omega arith
+
+array-read-rounds : tie.Need-array-read-rounds Inv-loop μ-loop
+array-read-rounds c = omega arith
+
+array-write-rounds : tie.Need-array-write-rounds Inv-loop μ-loop
+array-write-rounds c = search needs
+
 add-j : tie.Need-add-j Inv-loop μ-loop
 add-j c = omega arith
 
@@ -33,11 +42,11 @@ loop-less c = omega arith
 loop-again : tie.Need-loop-again Inv-loop μ-loop
 loop-again c = tt
 
-array-read-t14 : tie.Need-array-read-t14 Inv-loop μ-loop
-array-read-t14 c = search needs
+array-read-t19 : tie.Need-array-read-t19 Inv-loop μ-loop
+array-read-t19 c = search needs
 
-array-read-t17 : tie.Need-array-read-t17 Inv-loop μ-loop
-array-read-t17 c = search needs
+array-read-t22 : tie.Need-array-read-t22 Inv-loop μ-loop
+array-read-t22 c = search needs
 
 returns : tie.Need-returns Inv-loop μ-loop
 returns c = tt
@@ -52,9 +61,12 @@ raw-session-spec =
     add-places
     array-read-places
     array-write-places
+    add-rounds
+    array-read-rounds
+    array-write-rounds
     add-j
     loop-less
     loop-again
-    array-read-t14
-    array-read-t17
+    array-read-t19
+    array-read-t22
     returns)

@@ -11,6 +11,8 @@ use reference::session::{PLACE_COUNT, STRUCK};
 use std::process::ExitCode;
 
 const SEED: u64 = 1;
+/// Few, so that the same round comes up again at a place.
+const ROUNDS: [u8; 4] = [0, 1, 2, 255];
 const BAD_CURVES: [u8; 6] = [0, 1, 3, 5, 8, 255];
 const BAD_ORDERS: [(u8, u8); 9] = [
     (2, 8),
@@ -47,6 +49,7 @@ fn all_cases() -> Vec<Case> {
     }
     builder.session_runs();
     builder.strike_runs();
+    builder.round_runs();
     builder.raw_sessions();
     builder.cases
 }
@@ -269,23 +272,37 @@ impl Builder {
         });
     }
 
+    fn round(&mut self) -> u8 {
+        ROUNDS[self.generator.below(ROUNDS.len())]
+    }
+
+    /// A session with these places and arbitrary rounds, also at missing ones.
     fn set(&mut self, q: u8, m: u8, places: &[u8]) {
+        let rounds = (0..PLACE_COUNT).map(|_| self.round()).collect();
         self.cases.push(Case {
             op: b's',
             q,
             m,
             input: places.to_vec(),
+            output: rounds,
             ..Case::default()
         });
     }
 
-    fn arrive(&mut self, place: usize, symbol: u8) {
+    fn arrive_in_round(&mut self, round: u8, place: usize, symbol: u8) {
         self.cases.push(Case {
             op: b'a',
             a: place as u8,
             b: symbol,
+            round,
             ..Case::default()
         });
+    }
+
+    /// An arrival of an arbitrary round.
+    fn arrive(&mut self, place: usize, symbol: u8) {
+        let round = self.round();
+        self.arrive_in_round(round, place, symbol);
     }
 
     fn ask(&mut self, length: usize) {
@@ -329,7 +346,8 @@ impl Builder {
         }
     }
 
-    /// Strikes that leave exactly m + 1 or m unstruck places, and fewer.
+    /// Strikes in one round that leave exactly m + 1 or m unstruck places, and
+    /// fewer.
     fn strike_runs(&mut self) {
         for shape in Shape::every_order(Curve::Q_IS_2) {
             let m = usize::from(shape.m);
@@ -350,36 +368,78 @@ impl Builder {
         let word = sample::codeword(&mut self.generator, shape);
         let places = self.generator.permutation(shape.n);
         let known = (left + 1).min(shape.n);
+        let round = self.round();
         self.open(shape.q(), shape.m);
         for &place in &places[..known] {
-            self.arrive(place, word[place]);
+            self.arrive_in_round(round, place, word[place]);
         }
         self.ask(shape.k);
         let struck = places[self.generator.below(known)];
-        self.strike(shape, struck, &word);
+        self.strike(shape, round, struck, word[struck]);
         if let Some(&place) = places.get(known) {
-            self.strike_with_the_wrong_symbol_first(shape, place, &word);
+            self.strike_with_the_wrong_symbol_first(shape, round, place, word[place]);
+        }
+        if let Some(higher) = round.checked_add(1) {
+            self.arrive_in_round(higher, struck, word[struck]);
+            self.ask(shape.k);
         }
     }
 
-    /// `place` holds its symbol: another, a third, and the first again come.
-    fn strike(&mut self, shape: Shape, place: usize, word: &[u8]) {
-        let first = word[place];
+    /// `place` holds `first` of the round: another, a third, and the first again
+    /// come.
+    fn strike(&mut self, shape: Shape, round: u8, place: usize, first: u8) {
         let another = sample::another_symbol(&mut self.generator, shape, first);
-        self.arrive(place, another);
+        self.arrive_in_round(round, place, another);
         self.ask(shape.k);
         let third = (0..shape.field_size).find(|&symbol| symbol != first && symbol != another);
         for symbol in third.into_iter().chain([first, another]) {
-            self.arrive(place, symbol);
+            self.arrive_in_round(round, place, symbol);
         }
         self.ask(shape.k);
     }
 
-    fn strike_with_the_wrong_symbol_first(&mut self, shape: Shape, place: usize, word: &[u8]) {
-        let another = sample::another_symbol(&mut self.generator, shape, word[place]);
-        self.arrive(place, another);
+    fn strike_with_the_wrong_symbol_first(
+        &mut self,
+        shape: Shape,
+        round: u8,
+        place: usize,
+        right: u8,
+    ) {
+        let another = sample::another_symbol(&mut self.generator, shape, right);
+        self.arrive_in_round(round, place, another);
         self.ask(shape.k);
-        self.arrive(place, word[place]);
+        self.arrive_in_round(round, place, right);
+        self.ask(shape.k);
+    }
+
+    fn round_runs(&mut self) {
+        for shape in Shape::every_order(Curve::Q_IS_2) {
+            self.round_run(shape, 40);
+        }
+        for m in [2, 11, 37] {
+            self.round_run(Shape::of(Curve::Q_IS_4, m), 60);
+        }
+    }
+
+    /// Right and wrong symbols of arbitrary rounds at few places, and then the
+    /// whole word in the highest round but for one place.
+    fn round_run(&mut self, shape: Shape, count: usize) {
+        let word = sample::codeword(&mut self.generator, shape);
+        self.open(shape.q(), shape.m);
+        for _ in 0..count {
+            let place = self.generator.below(4);
+            let another = sample::another_symbol(&mut self.generator, shape, word[place]);
+            let symbols = [word[place], word[place], another];
+            let symbol = symbols[self.generator.below(symbols.len())];
+            let lower_round = ROUNDS[self.generator.below(3)];
+            self.arrive_in_round(lower_round, place, symbol);
+            if self.generator.below(4) == 0 {
+                self.ask(shape.k);
+            }
+        }
+        for place in self.generator.permutation(shape.n).into_iter().skip(1) {
+            self.arrive_in_round(255, place, word[place]);
+        }
         self.ask(shape.k);
     }
 
@@ -547,9 +607,9 @@ mod tests {
     }
 
     #[test]
-    fn there_are_about_7000_cases_and_each_fits_its_record() {
+    fn there_are_about_8000_cases_and_each_fits_its_record() {
         let cases = all_cases();
-        assert!((6600..=7600).contains(&cases.len()), "{}", cases.len());
+        assert!((7600..=8600).contains(&cases.len()), "{}", cases.len());
         for case in &cases {
             let record: [u8; RECORD_LENGTH] = case.to_record();
             assert_eq!(&Case::from_record(&record), case);
@@ -573,6 +633,26 @@ mod tests {
             .map(|(case, _)| (case.op, case.q, case.m))
             .collect();
         assert_eq!(accepted.len(), 3 * (8 + 64));
+    }
+
+    /// A missing place, and a symbol or a strike that a lower, the same or a
+    /// higher round comes to, the same symbol or another.
+    #[test]
+    fn every_way_of_an_arrival_comes_up() {
+        let mut runner = Runner::default();
+        let mut ways = BTreeSet::new();
+        for case in all_cases() {
+            let before = *runner.session();
+            let line = runner.run(&case);
+            if op_and_number(&line) == "a 0" {
+                let index = usize::from(case.a);
+                let held = before.places[index];
+                let kind = [MISSING, STRUCK].into_iter().find(|&mark| mark == held);
+                let round = case.round.cmp(&before.rounds[index]);
+                ways.insert((kind, round, held == case.b));
+            }
+        }
+        assert_eq!(ways.len(), 3 + 3 + 3 * 2);
     }
 
     fn op_and_number(line: &str) -> String {

@@ -26,22 +26,28 @@ enum-told c = search needs
 element-copy-out-keep : tie.Need-element-copy-out-keep
 element-copy-out-keep c = inside c
 
+element-copy-out-keep-2 : tie.Need-element-copy-out-keep-2
+element-copy-out-keep-2 c = inside (c .before)
+
 keep-requires : tie.Need-keep-requires
 keep-requires c κs = search needs
 
 element-write-self : tie.Need-element-write-self
-element-write-self c = inside (c .before .before)
+element-write-self c = inside (c .before .before .before)
+
+element-write-self-2 : tie.Need-element-write-self-2
+element-write-self-2 c = inside (c .before .before .before)
 
 returns : tie.Need-returns
 returns c =
-    let told = c .before .before in
+    let told = c .before .before .before in
     let x = told .before .before .before .args in
-    sym (arrived-kept (x .t1) (x .place) (x .symbol) _ (told .before .before .check .ensures) (told .enum-told .given .1) _ (c .keep .ensures))
+    sym (arrived-kept (x .t1) (x .place) (x .symbol) (x .round) _ (told .before .before .check .ensures) (told .enum-told .given .1) _ (c .keep .ensures))
 
 returns-2 : tie.Need-returns-2
 returns-2 c =
     let x = c .before .before .args in
-    sym (arrived-refused (x .t1) (x .place) (x .symbol) _ (sym (c .before .check .ensures)) (not-done (c .before .check .result) (c .match .keys2)))
+    sym (arrived-refused (x .t1) (x .place) (x .symbol) (x .round) _ (sym (c .before .check .ensures)) (not-done (c .before .check .result) (c .match .keys2)))
 
 pub arrive-spec : {M : Type 1} → statement M
 arrive-spec =
@@ -50,7 +56,9 @@ arrive-spec =
     check-requires
     enum-told
     element-copy-out-keep
+    element-copy-out-keep-2
     keep-requires
     element-write-self
+    element-write-self-2
     returns
     returns-2)

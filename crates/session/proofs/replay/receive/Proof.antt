@@ -33,6 +33,12 @@ add-arrive c = omega arith
 shared-slice-read-arrive-2 : tie.Need-shared-slice-read-arrive-2 Inv-loop μ-loop
 shared-slice-read-arrive-2 c = omega arith
 
+add-arrive-2 : tie.Need-add-arrive-2 Inv-loop μ-loop
+add-arrive-2 c = omega arith
+
+shared-slice-read-arrive-3 : tie.Need-shared-slice-read-arrive-3 Inv-loop μ-loop
+shared-slice-read-arrive-3 c = omega arith
+
 arrive-requires : tie.Need-arrive-requires Inv-loop μ-loop
 arrive-requires c κs = search needs
 
@@ -44,7 +50,7 @@ loop-less c = omega arith
 
 loop-again : tie.Need-loop-again Inv-loop μ-loop
 loop-again c =
-    let l = c .before .before .before .before .before .loop in
+    let l = c .before .before .before .before .before .before .loop in
     (omega arith, l .inv .1 ∙ receive-turn (l .session) _ (l .at) (omega arith) _ (c .before .arrive .ensures))
 
 returns : tie.Need-returns Inv-loop μ-loop
@@ -63,6 +69,8 @@ receive-spec =
     shared-slice-read-arrive
     add-arrive
     shared-slice-read-arrive-2
+    add-arrive-2
+    shared-slice-read-arrive-3
     arrive-requires
     add-at
     loop-less

@@ -1,97 +1,22 @@
--- The checks: the search for a bad value, what it says that a check comes out Done, and refusals of a whole call.
+-- The checks: what it says that a check comes out Done, and refusals of a whole call. Of values they are the field's.
 -- Assumes nothing.
-use mathlib.Core.Bool.{Bool, true, false, not, cond, _&&_, and-false}
-use mathlib.Core.List.{List, [], _∷_}
-use mathlib.Core.Logic.{_⊎_, inl, inr}
+use mathlib.Core.Bool.{Bool, true, false, not, cond}
+use mathlib.Core.List.{List}
 use mathlib.Core.Path.{_≡_, refl, sym, ap, ap₂, _∙_}
-use Prim.Native.Nat.{ℕ, zero, suc, _+_, _*_, _≤_, _<_}
-use native.Mathlib.Numerals.{add-one}
-use native.Mathlib.Decide.{ℕ-discrete}
+use Prim.Native.Nat.{ℕ, _*_, _≤_, _<_}
 use native.Mathlib.Omega.{arith}
-use borrow.Author.Tests.{lt-leb, le-leb, lt-ltb, le-ltb, eq-eqb, ne-eqb, eqb-true, leb-false, ltb-false, not-false, leb-true}
-use lib.Dec.{T, leb, ltb, eqb}
-use lib.ListN.{length, getD, drop, drop-of-length-le}
-use lib.Seq.{drop-cons}
+use borrow.Author.Tests.{lt-leb, le-leb, lt-ltb, le-ltb, eq-eqb, ne-eqb, eqb-true, leb-false, ltb-false, not-false}
+use lib.Dec.{leb, ltb, eqb}
+use lib.ListN.{length, getD}
 use Rattle.field.specs.Curve.{isCurve, IsCurve}
 use Rattle.field.specs.Outcomes.{number, refuse}
 use Rattle.field.specs.declared.outcome.Outcome.{Outcome}
 use Rattle.field.specs.declared.outcome.Outcome.the-variants.{Done, BadCurve, BadOrder, BadLength, BadValue, BadRoom}
 use Rattle.field.proofs.Curves.{curve-true, curve-of-true}
+pub use Rattle.field.proofs.Values.{good-symbol, good-gap, bad-gap, symbol-of-good, value-of-good, all-good, none-found}
 use Rattle.field.proofs.Outcomes.{passed, Follows, none-follow, refuse-follows}
-use Rattle.poly.proofs.Bools.{true-or-false}
 use Rattle.code.specs.Terms.{size}
 use Rattle.code.specs.Checks.{orderChecks, badValue, firstBad, valueCheck, sliceChecks, callChecks}
-
--- ---- one value
-
-pub good-symbol : (gaps : Bool) (Q x : ℕ) → x < Q → badValue gaps Q x ≡ false
-good-symbol gaps Q x l = rw (lt-leb Q x l)
-
-pub good-gap : (Q x : ℕ) → x ≡ 255 → badValue true Q x ≡ false
-good-gap Q x e = rw (eq-eqb x 255 e, and-false (leb Q x))
-
-pub bad-gap : (Q x : ℕ) → Q ≤ x → (x ≡ 255 → ⊥) → (gaps : Bool) → badValue gaps Q x ≡ true
-bad-gap Q x l n true = rw (le-leb Q x l, ne-eqb x 255 n)
-bad-gap Q x l n false = rw (le-leb Q x l)
-
-pub symbol-of-good : (Q x : ℕ) → badValue false Q x ≡ false → x < Q
-symbol-of-good Q x e = go (true-or-false (leb Q x))
-  where
-    go : (leb Q x ≡ true) ⊎ (leb Q x ≡ false) → x < Q
-    go (inr f) = leb-false Q x f
-    go (inl t) = let z : _≡_ {A = Bool} true false = rw t at e in let o : _≡_ {A = ℕ} 0 1 = cc in absurd (omega arith)
-
--- a value that may stand in a broken word
-pub value-of-good : (Q x : ℕ) → badValue true Q x ≡ false → (x ≡ 255) ⊎ (x < Q)
-value-of-good Q x e = go (ℕ-discrete x 255) (true-or-false (leb Q x))
-  where
-    go : Dec (x ≡ 255) → (leb Q x ≡ true) ⊎ (leb Q x ≡ false) → (x ≡ 255) ⊎ (x < Q)
-    go (yes h) b = inl h
-    go (no n) (inr f) = inr (leb-false Q x f)
-    go (no n) (inl t) = let z : _≡_ {A = Bool} true false = rw (t, ne-eqb x 255 n) at e in let o : _≡_ {A = ℕ} 0 1 = cc in absurd (omega arith)
-
--- ---- the search
-
-module _ (bad : ℕ → Bool) where
-  bad-head : (x : ℕ) (xs : List ℕ) → bad x ≡ true → firstBad bad (x ∷ xs) ≡ 0
-  unfolding firstBad
-  bad-head x xs e = rw e
-
-  good-head : (x : ℕ) (xs : List ℕ) → bad x ≡ false → firstBad bad (x ∷ xs) ≡ suc (firstBad bad xs)
-  unfolding firstBad
-  good-head x xs e = rw e
-
-  bad-nil : firstBad bad [] ≡ 0
-  unfolding firstBad
-  bad-nil = refl
-
-  module _ (list : List ℕ) (i : ℕ) (e : firstBad bad list ≡ i + firstBad bad (drop i list)) where
-    pub bad-found : i < length list → bad (getD list i 0) ≡ true → i ≡ firstBad bad list
-    bad-found l b = omega (arith, e, ap (firstBad bad) (drop-cons list i 0 l), bad-head (getD list i 0) (drop (suc i) list) b)
-
-    pub bad-turn : i < length list → bad (getD list i 0) ≡ false → firstBad bad list ≡ i + 1 + firstBad bad (drop (i + 1) list)
-    bad-turn l b =
-        rw (add-one i)
-        (omega (arith, e, ap (firstBad bad) (drop-cons list i 0 l), good-head (getD list i 0) (drop (suc i) list) b))
-
-    pub bad-none : length list ≤ i → i ≡ firstBad bad list
-    bad-none l = omega (arith, e, ap (firstBad bad) (drop-of-length-le list l), bad-nil)
-
-  -- where the search finds nothing, no value is bad
-  pub all-good : (list : List ℕ) → length list ≤ firstBad bad list → (i : ℕ) → i < length list → bad (getD list i 0) ≡ false
-  all-good [] l i k = absurd (omega arith)
-  all-good (x ∷ xs) l i k = go (true-or-false (bad x)) (all-good xs) i k
-    where
-      go : (bad x ≡ true) ⊎ (bad x ≡ false) → (length xs ≤ firstBad bad xs → (i : ℕ) → i < length xs → bad (getD xs i 0) ≡ false)
-          → (i : ℕ) → i < suc (length xs) → bad (getD (x ∷ xs) i 0) ≡ false
-      go (inl t) ih i k = absurd (omega (arith, l, bad-head x xs t))
-      go (inr t) ih zero k = t
-      go (inr t) ih (suc i) k = ih (omega (arith, l, good-head x xs t)) i (omega arith)
-
-  -- and where no value is bad, it finds nothing
-  pub none-found : (list : List ℕ) → ((i : ℕ) → i < length list → bad (getD list i 0) ≡ false) → length list ≤ firstBad bad list
-  none-found [] h = omega arith
-  none-found (x ∷ xs) h = omega (arith, good-head x xs (h 0 (omega arith)), none-found xs (λ i l. h (suc i) (omega arith)))
 
 -- ---- rows of checks
 

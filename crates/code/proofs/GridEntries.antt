@@ -6,7 +6,7 @@ use mathlib.Core.List.{List, [], _∷_, map, map-append}
 use mathlib.Core.Path.{_≡_, refl, sym, ap, _∙_}
 use Prim.Native.Nat.{ℕ, zero, suc, _+_, _-_, _*_, _/_, _%_, _≤_, _<_}
 use native.Mathlib.Decide.{decLt, ℕ-discrete}
-use native.Mathlib.Nat.{mul-le-mul-left, div-add-mod}
+use native.Mathlib.Nat.{mul-le-mul-left, div-add-mod, add-mul, mul-suc}
 use native.Mathlib.Numerals.{add-one}
 use native.Mathlib.Omega.{arith}
 use borrow.Author.Tests.{le-leb, lt-leb}
@@ -17,7 +17,7 @@ use Rattle.poly.proofs.Lists.{getD-map}
 use Rattle.poly.proofs.Entries.{getD-zeros}
 use Rattle.code.specs.Passing.{passing}
 use Rattle.code.specs.Terms.{isTerm, weights, size}
-use Rattle.code.specs.Grid.{weightOf, entryOf, rank, scatterBelow, scatter, gather}
+use Rattle.code.specs.Grid.{weightOf, entryOf, rank, scatterBelow, scatter, gather, entriesOf}
 use Rattle.code.proofs.Passing.{passing-true, passing-false, passing-at, at-place, place-lt, place-true, place-false}
 use Rattle.code.proofs.Weights.{weight-of-entry, entry-of-weight, entry-term}
 
@@ -137,6 +137,9 @@ module _ (q : ℕ) (pos : 0 < q) (n m : ℕ) where
 abbrev pub Split : ℕ → ℕ → ℕ → ℕ → Type 0
 Split q w i j = (i ≡ w / q) × (j ≡ w % q)
 
+split-sum : (q w i j : ℕ) → Split q w i j → w ≡ q * i + j
+split-sum q w i j d = omega (arith, div-add-mod w q, ap (λ (x : ℕ). q * x) (d .0), d .1)
+
 is-term : (q w i j : ℕ) → Split q w i j → j ≤ i → isTerm q w ≡ true
 is-term q w i j d l = le-leb (w % q) (w / q) (omega (arith, d .0, d .1))
 
@@ -161,12 +164,20 @@ module _ (q w k i j : ℕ) (d : Split q w i j) (h : k ≡ rank q w) where
   pub rank-lt : (m : ℕ) → w ≤ m → j ≤ i → k < size q m
   rank-lt m a l = rw h (place-lt (isTerm q) w (suc m) (is-term q w i j d l) (omega arith))
 
-pub rank-zero : (q : ℕ) → 0 ≡ rank q 0
-unfolding passing
-rank-zero q = refl
+-- the code's test: y^j alone weighs no more than w
+pub in-y-le : (q w i j : ℕ) → 0 < q → Split q w i j → (q + 1) * j ≤ w → j ≤ i
+in-y-le q w i j pos d l =
+    elim (decLt i j) [ yes h ↦ absurd (omega (arith, add-mul q 1 j, split-sum q w i j d, mul-suc q i, mul-le-mul-left q h)) | no h ↦ omega arith ]
+
+pub in-y-gt : (q w i j : ℕ) → Split q w i j → w < (q + 1) * j → i < j
+in-y-gt q w i j d l =
+    elim (decLt i j) [ yes h ↦ h | no h ↦ let k : j ≤ i = omega arith in absurd (omega (arith, add-mul q 1 j, split-sum q w i j d, mul-le-mul-left q k)) ]
 
 pub entry-le : (q w i j : ℕ) → Split q w i j → j ≤ i → q * j ≤ w
 entry-le q w i j d l = omega (arith, ap (λ (x : ℕ). q * x) (d .0), ap (λ (x : ℕ). q * x) (d .1), mul-le-mul-left q l, div-add-mod w q)
+
+pub entry-is : (q w i j : ℕ) → Split q w i j → (q + 1) * j ≤ w → w - (q + 1) * j + j ≡ entryOf q w
+entry-is q w i j d l = omega (arith, add-mul q 1 j, ap (λ (x : ℕ). q * x) (d .1))
 
 -- a list that is filled from the front with the values of f at the weights below w
 abbrev pub termList : (ℕ → ℕ) → ℕ → ℕ → List ℕ
@@ -188,6 +199,12 @@ module _ (f : ℕ → ℕ) (q : ℕ) (list : List ℕ) (w k i j : ℕ) (d : Spli
 -- the coefficients of a grid
 abbrev pub gathered : List ℕ → ℕ → ℕ → ℕ
 gathered grid q v = getD grid (entryOf q v) 0
+
+pub entries-end : (q : ℕ) (list : List ℕ) (w k : ℕ) → take k list ≡ termList (entryOf q) q w → (m : ℕ) → w ≡ m + 1 → k ≡ rank q w
+    → (k ≡ size q m) × (take (size q m) list ≡ entriesOf q m)
+entries-end q list w k e m a b =
+    let h : k ≡ size q m = b ∙ ap (rank q) (a ∙ add-one m) in
+    (h, ap (λ (n : ℕ). take n list) (sym h) ∙ e ∙ ap (termList (entryOf q) q) (a ∙ add-one m))
 
 pub gather-end : (q : ℕ) (grid message : List ℕ) (w k : ℕ) → take k message ≡ termList (gathered grid q) q w → (m : ℕ) → w ≡ m + 1 → k ≡ rank q w
     → length message ≡ size q m → message ≡ gather q m grid

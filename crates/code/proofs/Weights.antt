@@ -1,20 +1,26 @@
--- The terms x^i y^j with j < q and weight q i + (q + 1) j at most m are those of `weights q m`, each once.
+-- The terms x^i y^j with j < q and weight q i + (q + 1) j at most m are those of `weights q m`, each once, and how many they are.
 -- Assumes nothing.
 use mathlib.Core.Bool.{Bool, true, false}
 use mathlib.Core.List.{List}
 use mathlib.Core.Path.{_≡_, refl, sym, ap, ap₂, _∙_}
 use Prim.Native.Nat.{ℕ, zero, suc, _+_, _-_, _*_, _/_, _%_, _≤_, _<_}
 use native.Mathlib.Decide.{le-ind}
-use native.Mathlib.Nat.{div-add-mod, mod-lt, mul-sub, mul-add, suc-mul, mul-le-mul-left, mul-add-div, mul-add-mod-self-left, mod-eq-of-lt, div-eq-of-lt, add-zero, le-div-iff-mul-le, mul-comm}
+use native.Mathlib.Nat.{div-add-mod, mod-lt, mul-sub, mul-add, suc-mul, mul-le-mul-left, mul-add-div, mul-add-mod-self-left, mod-eq-of-lt, div-eq-of-lt, add-zero, le-div-iff-mul-le, mul-comm, mul-suc, mul-zero, add-suc, add-mul}
+use native.Mathlib.Numerals.{add-one}
 use native.Mathlib.Omega.{arith}
-use borrow.Author.Tests.{le-leb, leb-true}
+use borrow.Author.Tests.{le-leb, lt-leb, leb-true}
 use lib.ListN.{length, getD}
 use Rattle.field.specs.Curve.{IsCurve, curveOf}
-use Rattle.field.proofs.Curves.{sizes, each-curve}
+use Rattle.field.proofs.Curves.{sizes}
 use Rattle.code.specs.Passing.{passing}
 use Rattle.code.specs.Terms.{isTerm, xPower, yPower, weights, size}
 use Rattle.code.specs.Grid.{weightOf, entryOf, rank}
-use Rattle.code.proofs.Passing.{passing-at, at-place, place-lt, place-true, place-bound}
+use Rattle.poly.specs.Lists.{Nodup}
+use Rattle.code.proofs.Passing.{passing-at, at-place, place-lt, place-true, place-false, place-bound, nodup-passing}
+
+pub rank-zero : (q : ℕ) → 0 ≡ rank q 0
+unfolding passing
+rank-zero q = refl
 
 module _ (q : ℕ) (pos : 0 < q) where
   -- the quotient and the remainder of q a + b
@@ -70,6 +76,21 @@ module _ (q : ℕ) (pos : 0 < q) where
       let w : ℕ = getD (weights q m) n 0 in
       (xPower q w, yPower q w, y-lt w, weight-of-powers w (a .1), omega (arith, a .0))
 
+  -- each once: no weight stands twice, and no two weights have the same exponents
+  pub weights-once : (m : ℕ) → Nodup (weights q m)
+  weights-once m = nodup-passing (isTerm q) (suc m)
+
+  pub powers-determine : (v w : ℕ) → isTerm q v ≡ true → isTerm q w ≡ true → xPower q v ≡ xPower q w → yPower q v ≡ yPower q w → v ≡ w
+  powers-determine v w s t e f =
+      sym (weight-of-powers v s) ∙ ap₂ (λ (i j : ℕ). q * i + suc q * j) e f ∙ weight-of-powers w t
+
+  -- the curve's own numbers: x has the weight weight_x and y the weight weight_y, and a term the weights of its factors
+  pub curve-weight : (m n : ℕ) → n < size q m → let w = getD (weights q m) n 0 in
+      w ≡ curveOf q .«weight_x» * xPower q w + curveOf q .«weight_y» * yPower q w
+  curve-weight m n l =
+      let w : ℕ = getD (weights q m) n 0 in
+      sym (weight-of-powers w (at-place (isTerm q) (suc m) n l .1)) ∙ ap (λ (v : ℕ). q * xPower q w + v * yPower q w) (sym (add-one q))
+
   -- from q (q - 1) on every number is the weight of a term
   pub large-term : (w : ℕ) → q * (q - 1) ≤ w → isTerm q w ≡ true
   large-term w l =
@@ -78,6 +99,47 @@ module _ (q : ℕ) (pos : 0 < q) where
 
   pub size-suc : (m : ℕ) → q * (q - 1) ≤ suc m → size q (suc m) ≡ suc (size q m)
   size-suc m l = place-true (isTerm q) (suc m) (large-term (suc m) l)
+
+  -- row a, of the numbers from q a to q a + q - 1, begins with a + 1 weights while a is below q, and has no others
+  row-term : (a b : ℕ) → b ≤ a → b < q → isTerm q (q * a + b) ≡ true
+  row-term a b l k = rw (remainder a b k, quotient a b k) (le-leb b a l)
+
+  row-gap : (a b : ℕ) → a < b → b < q → isTerm q (q * a + b) ≡ false
+  row-gap a b l k = rw (remainder a b k, quotient a b k) (lt-leb b a l)
+
+  row-terms : (a b : ℕ) → b ≤ suc a → suc a ≤ q → rank q (q * a + b) ≡ rank q (q * a) + b
+  row-terms a zero l k = ap (rank q) (add-zero (q * a)) ∙ sym (add-zero (rank q (q * a)))
+  row-terms a (suc b) l k =
+      ap (rank q) (add-suc (q * a) b) ∙ place-true (isTerm q) (q * a + b) (row-term a b (omega arith) (omega arith))
+      ∙ ap suc (row-terms a b (omega arith) k) ∙ sym (add-suc (rank q (q * a)) b)
+
+  row-gaps : (a : ℕ) → suc a ≤ q → (b : ℕ) → suc a ≤ b → b ≤ q → rank q (q * a + b) ≡ rank q (q * a) + suc a
+  row-gaps a k b l =
+      le-ind (λ (b : ℕ). b ≤ q → rank q (q * a + b) ≡ rank q (q * a) + suc a) (λ h. row-terms a (suc a) (omega arith) k)
+      (λ b g ih h. ap (rank q) (add-suc (q * a) b) ∙ place-false (isTerm q) (q * a + b) (row-gap a b (omega arith) (omega arith)) ∙ ih (omega arith)) b l
+
+  -- so the first a rows have 1 + 2 + .. + a weights
+  rows-below : (a : ℕ) → a ≤ q → 2 * rank q (q * a) ≡ a * suc a
+  rows-below zero l = ap (λ (w : ℕ). 2 * rank q w) (mul-zero q) ∙ ap (λ (n : ℕ). 2 * n) (sym (rank-zero q))
+  rows-below (suc a) l =
+      let e : rank q (q * suc a) ≡ rank q (q * a) + suc a = ap (rank q) (mul-suc q a) ∙ row-gaps a l q l (omega arith) in
+      omega (arith, e, rows-below a (omega arith), suc-mul a (suc (suc a)), mul-suc a (suc a))
+
+  -- the first q - 1 of them have as many weights as the genus says, which is q (q - 1) / 2
+  rows-genus : 2 * rank q (q * (q - 1)) ≡ q * (q - 1)
+  rows-genus =
+      let last : suc (q - 1) ≡ q = omega arith in
+      rows-below (q - 1) (omega arith) ∙ ap (λ (n : ℕ). (q - 1) * n) last ∙ mul-comm (q - 1) q
+
+  pub twice-genus : 2 * curveOf q .genus ≡ q * (q - 1)
+  twice-genus = omega (arith, rows-genus)
+
+  -- "from m = 2g - 1 on it is m + 1 - g"
+  pub size-from-genus : (m : ℕ) → q * (q - 1) ≤ m + 1 → size q m ≡ m + 1 - curveOf q .genus
+  size-from-genus m l =
+      rw (add-one m)
+      (le-ind (λ (w : ℕ). rank q w ≡ w - q * (q - 1) / 2) (omega (arith, rows-genus))
+      (λ w g ih. place-true (isTerm q) w (large-term w g) ∙ omega (arith, ih)) (suc m) (omega arith))
 
   -- the entry of a weight, and the weight of an entry
   entry-digits : (w : ℕ) → isTerm q w ≡ true → entryOf q w ≡ q * xPower q w + yPower q w
@@ -108,27 +170,6 @@ module _ (q : ℕ) (pos : 0 < q) where
       le-leb (weightOf q e % q) (weightOf q e / q)
       (rw (weight-digits e, remainder (e / q + e % q) (e % q) (mod-lt e pos), quotient (e / q + e % q) (e % q) (mod-lt e pos)) (omega arith))
 
-base-2 : size 2 1 ≡ 1
-unfolding passing
-base-2 = refl
-
-base-4 : size 4 11 ≡ 6
-unfolding passing
-base-4 = refl
-
--- k = m + 1 - g from m = 2 g - 1 on
-pub size-2 : (m : ℕ) → 1 ≤ m → size 2 m ≡ m
-size-2 m l = le-ind (λ (k : ℕ). size 2 k ≡ k) base-2 (λ k a ih. size-suc 2 (omega arith) k (omega arith) ∙ ap suc ih) m l
-
-pub size-4 : (m : ℕ) → 11 ≤ m → size 4 m ≡ m - 5
-size-4 m l = le-ind (λ (k : ℕ). size 4 k ≡ k - 5) base-4 (λ k a ih. size-suc 4 (omega arith) k (omega arith) ∙ ap suc ih ∙ omega arith) m l
-
--- where g is q (q - 1) / 2
-pub size-from-genus : (q : ℕ) → IsCurve q → (m : ℕ) → q * (q - 1) ≤ m + 1 → size q m ≡ m + 1 - curveOf q .genus
-size-from-genus =
-    each-curve (λ q. (m : ℕ) → q * (q - 1) ≤ m + 1 → size q m ≡ m + 1 - curveOf q .genus)
-    (λ m l. size-2 m (omega arith) ∙ omega arith) (λ m l. size-4 m (omega arith) ∙ omega arith)
-
 pub size-le : (q m : ℕ) → size q m ≤ suc m
 size-le q m = place-bound (isTerm q) (suc m)
 
@@ -139,3 +180,10 @@ small-product q curve w j e =
     let l : j < q = rw e (mod-lt w (omega (arith, z .low))) in
     let k : j ≤ q = omega arith in
     omega (arith, z .symbols, mul-le-mul-left q k)
+
+-- and so is the weight of a power of y below q
+pub small-weight : (q : ℕ) → IsCurve q → (w j : ℕ) → j ≡ w % q → (q + 1) * j ≤ 20
+small-weight q curve w j e =
+    let z = sizes q curve in
+    let l : j < q = rw e (mod-lt w (omega (arith, z .low))) in
+    omega (arith, add-mul q 1 j, small-product q curve w j e, z .high)

@@ -14,6 +14,10 @@ weightOf q e = e + q * (e % q)
 abbrev pub entryOf : ℕ → ℕ → ℕ
 entryOf q w = w - q * (w % q)
 
+-- the entries of the terms of the order m, by ascending weight
+abbrev pub entriesOf : ℕ → ℕ → List ℕ
+entriesOf q m = map (entryOf q) (weights q m)
+
 -- how many terms have a weight below w: the index of the coefficient of weight w in a message
 abbrev pub rank : ℕ → ℕ → ℕ
 rank q w = length (passing (isTerm q) w)

@@ -1,8 +1,9 @@
 -- Recovery, for every argument.
 use mathlib.Core.Bool.{true}
 use mathlib.Core.List.{List, [], _∷_}
-use Prim.Native.Nat.{ℕ, _*_}
+use Prim.Native.Nat.{ℕ}
 use lib.ListN.{length}
+use Rattle.field.specs.Curve.{curveOf}
 use Rattle.field.specs.declared.outcome.Outcome.{Outcome}
 use Rattle.field.specs.declared.outcome.Outcome.the-variants.{Done, NoMessage, Several}
 use Rattle.code.specs.Points.{columnsOf}
@@ -39,4 +40,4 @@ recoverChecks q m broken slice = callChecks true true q m broken (length slice)
 
 unfoldable pub recovered : ℕ → ℕ → List ℕ → List ℕ → Answer
 recovered q m broken slice =
-    unlessRefused (recoverChecks q m broken slice) slice (told (reading (q * q) (size q m) (wordOf q (columnsOf q) m) broken) slice)
+    unlessRefused (recoverChecks q m broken slice) slice (told (reading (curveOf q .symbols) (size q m) (wordOf q (columnsOf q) m) broken) slice)

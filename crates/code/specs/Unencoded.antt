@@ -2,8 +2,9 @@
 -- messages: it gives the message whose word the word is, and refuses exactly where there is none.
 use mathlib.Core.Bool.{true, false}
 use mathlib.Core.List.{List, [], _∷_}
-use Prim.Native.Nat.{ℕ, _*_}
+use Prim.Native.Nat.{ℕ}
 use lib.ListN.{length}
+use Rattle.field.specs.Curve.{curveOf}
 use Rattle.field.specs.declared.outcome.Outcome.{Outcome}
 use Rattle.field.specs.declared.outcome.Outcome.the-variants.{Done, NoMessage}
 use Rattle.code.specs.Points.{columnsOf}
@@ -24,4 +25,4 @@ theMessage (message ∷ rest) slice = answered Done message
 
 unfoldable pub unencoded : ℕ → ℕ → List ℕ → List ℕ → Answer
 unencoded q m word slice =
-    unlessRefused (unencodeChecks q m word slice) slice (theMessage (fitting (q * q) (size q m) (wordOf q (columnsOf q) m) word) slice)
+    unlessRefused (unencodeChecks q m word slice) slice (theMessage (fitting (curveOf q .symbols) (size q m) (wordOf q (columnsOf q) m) word) slice)

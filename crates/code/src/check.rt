@@ -2,7 +2,8 @@
 ghost use mathlib.Core.Path.{_≡_};
 ghost use Prim.Native.Nat.{_≤_};
 ghost use Rattle.field.specs.declared.outcome.Outcome.the-variants.{Done};
-ghost use Rattle.code.specs.Checks.{orderChecks, badValue, firstBad, sliceChecks, callChecks};
+ghost use Rattle.field.specs.Values.{badValue, firstBad};
+ghost use Rattle.code.specs.Checks.{orderChecks, sliceChecks, callChecks};
 use crate::term;
 use field::Curve;
 use field::Named;
@@ -80,12 +81,11 @@ pub fn call(gaps: bool, decodes: bool, q: u8, m: usize, input: &[u8], room: usiz
     let Outcome::Done = first else {
         return first;
     };
-    let symbols = q * q;
-    let n = (symbols as usize) * (q as usize);
+    let curve = Curve::at(q);
     let k = term::size(q, m);
     if decodes {
-        slices(gaps, symbols, n, input, k, room)
+        slices(gaps, curve.symbols, curve.points, input, k, room)
     } else {
-        slices(gaps, symbols, k, input, n, room)
+        slices(gaps, curve.symbols, k, input, curve.points, room)
     }
 }

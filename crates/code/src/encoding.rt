@@ -12,6 +12,7 @@ use crate::check;
 use crate::grid;
 use crate::point;
 use crate::term;
+use field::Curve;
 use field::Outcome;
 use poly::polynomial;
 use poly::rows;
@@ -84,7 +85,8 @@ pub fn encode(q: u8, m: u8, message: &[u8], word: &mut [u8]) -> Outcome
         return checked;
     };
     let columns = point::columns();
-    let c = (q * q) as usize;
+    let curve = Curve::at(q);
+    let c = curve.symbols as usize;
     write_word(q, &columns[..c], order, message, word);
     Outcome::Done
 }

@@ -23,6 +23,7 @@ use crate::grid;
 use crate::point;
 use crate::term;
 use crate::unencoding;
+use field::Curve;
 use field::Outcome;
 use poly::rows;
 use poly::system;
@@ -272,8 +273,8 @@ fn recover_over(
     requires { ⌜ BrokenOver q (now columns) m (now word) × (k ≡ size q m) × (length (now message) ≡ size q m) × (size q m < 64) ⌝ }
     ensures { λ r. ⌜ told (reading (fieldOf q .size) (size q m) (wordOf q (now (columns .entry)) m) (now (word .entry))) (now (message .entry)) ≡ answered r (now (message .exit)) ⌝ }
 {
-    let symbols = q * q;
-    if check::first_bad(false, symbols, word) == word.len() {
+    let curve = Curve::at(q);
+    if check::first_bad(false, curve.symbols, word) == word.len() {
         return unencoding::read_word(q, columns, m, word, message);
     }
     recover_by_equations(q, columns, m, k, word, message)
@@ -289,7 +290,8 @@ pub fn recover(q: u8, m: u8, word: &[u8], message: &mut [u8]) -> Outcome
         return checked;
     };
     let columns = point::columns();
-    let c = (q * q) as usize;
+    let curve = Curve::at(q);
+    let c = curve.symbols as usize;
     let k = message.len();
     recover_over(q, &columns[..c], order, k, word, message)
 }

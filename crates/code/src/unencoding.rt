@@ -9,6 +9,7 @@ use crate::check;
 use crate::grid;
 use crate::point;
 use crate::term;
+use field::Curve;
 use field::Outcome;
 use poly::interpolation;
 use poly::power_sums;
@@ -122,6 +123,7 @@ pub fn unencode(q: u8, m: u8, word: &[u8], message: &mut [u8]) -> Outcome
         return checked;
     };
     let columns = point::columns();
-    let c = (q * q) as usize;
+    let curve = Curve::at(q);
+    let c = curve.symbols as usize;
     read_word(q, &columns[..c], order, word, message)
 }

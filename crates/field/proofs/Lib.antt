@@ -8,5 +8,6 @@ pub mod Sums
 pub mod Powers
 pub mod Outcomes
 pub mod Curves
+pub mod Values
 pub mod Entries
 pub mod Formula

@@ -1,24 +1,20 @@
 -- What the field's sum, product and inverse answer, for every argument: a symbol and an outcome.
-use mathlib.Core.Bool.{cond, not}
+use mathlib.Core.Bool.{false, cond, not}
 use mathlib.Core.List.{List, [], _∷_}
-use Prim.Native.Nat.{ℕ, suc, _*_}
-use lib.Dec.{leb, eqb}
+use Prim.Native.Nat.{ℕ}
+use lib.Dec.{eqb}
 use Rattle.field.specs.Plus.{plus}
 use Rattle.field.specs.Product.{times, inverse}
-use Rattle.field.specs.Curve.{isCurve, bitsOf}
+use Rattle.field.specs.Curve.{isCurve, bitsOf, curveOf}
 use Rattle.field.specs.Outcomes.{number, refuse}
+use Rattle.field.specs.Values.{valueCheck}
 use Rattle.field.specs.declared.entry.Answer.{Answer}
 use Rattle.field.specs.declared.outcome.Outcome.{Outcome}
-use Rattle.field.specs.declared.outcome.Outcome.the-variants.{Done, BadCurve, BadValue, InverseOfZero}
+use Rattle.field.specs.declared.outcome.Outcome.the-variants.{Done, BadCurve, InverseOfZero}
 
--- check 4 on the operands; the head of the list has the index i
-abbrev pub operandChecks : ℕ → ℕ → List ℕ → Outcome → Outcome
-operandChecks size i [] rest = rest
-operandChecks size i (x ∷ xs) rest = refuse (leb size x) (BadValue i) (operandChecks size (suc i) xs rest)
-
--- checks 1 and 4, and what is to follow where neither applies
+-- checks 1 and 4, the operands being the values 0 and 1, and what is to follow where neither applies
 abbrev pub fieldChecks : ℕ → List ℕ → Outcome → Outcome
-fieldChecks q operands rest = refuse (not (isCurve q)) BadCurve (operandChecks (q * q) 0 operands rest)
+fieldChecks q operands rest = refuse (not (isCurve q)) BadCurve (valueCheck false (curveOf q .symbols) operands rest)
 
 -- "A refused field operation gives the symbol 0."
 abbrev pub answer : Outcome → ℕ → Answer

@@ -6,4 +6,5 @@ pub mod Power
 pub mod Sum
 pub mod Curve
 pub mod Outcomes
+pub mod Values
 pub mod Entries

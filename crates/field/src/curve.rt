@@ -1,6 +1,6 @@
 // Each curve's fixed numbers, by type and by q.
 ghost use mathlib.Core.Path.{_≡_};
-ghost use Rattle.field.specs.Curve.{namedOf};
+ghost use Rattle.field.specs.Curve.{IsCurve, curveOf, namedOf};
 
 // The curve y^2 + y = x^3.
 pub struct Small;
@@ -48,26 +48,38 @@ pub enum Named {
 }
 
 impl Curve {
-    pub fn of(q: u8) -> Named
-        ensures { λ r. ⌜ r ≡ namedOf q ⌝ }
+    // The curve of a number that is known to be a curve's.
+    pub fn at(q: u8) -> Curve
+        requires { ⌜ IsCurve q ⌝ }
+        ensures { λ r. ⌜ r ≡ curveOf q ⌝ }
     {
-        match q {
-            2 => Named::Is(Curve {
-                q: 2,
+        if q == 2 {
+            Curve {
+                q,
                 symbols: Small::Q,
                 points: Small::N,
                 genus: Small::GENUS,
                 weight_x: Small::WEIGHT_X,
                 weight_y: Small::WEIGHT_Y,
-            }),
-            4 => Named::Is(Curve {
-                q: 4,
+            }
+        } else {
+            Curve {
+                q,
                 symbols: Large::Q,
                 points: Large::N,
                 genus: Large::GENUS,
                 weight_x: Large::WEIGHT_X,
                 weight_y: Large::WEIGHT_Y,
-            }),
+            }
+        }
+    }
+
+    // The curve of any number.
+    pub fn of(q: u8) -> Named
+        ensures { λ r. ⌜ r ≡ namedOf q ⌝ }
+    {
+        match q {
+            2 | 4 => Named::Is(Curve::at(q)),
             _ => Named::Unknown,
         }
     }

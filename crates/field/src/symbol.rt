@@ -4,6 +4,8 @@ ghost use Prim.Native.Nat.{_*_, _%_, _<_, _^_};
 ghost use Rattle.field.specs.Plus.{plus};
 ghost use Rattle.field.specs.Curve.{bitsOf};
 ghost use Rattle.field.specs.Product.{timesZ, times, inverse};
+use crate::curve::Large;
+use crate::curve::Small;
 
 // The inverses of the two fields; that of 0 is 0.
 const INVERSES: [u8; 16] = [0, 1, 9, 14, 13, 11, 7, 6, 15, 2, 12, 5, 10, 4, 3, 8];
@@ -34,7 +36,7 @@ pub fn plus(a: u8, b: u8) -> u8
 fn size(q: u8) -> u8
     ensures { λ r. ⌜ r ≡ 2 ^ bitsOf q ⌝ }
 {
-    if q == 2 { 4 } else { 16 }
+    if q == 2 { Small::Q } else { Large::Q }
 }
 
 // z times a: a shift, and z + 1 for the bit that comes out.

@@ -16,7 +16,7 @@ use Rattle.code.specs.Checks.{badValue, firstBad, sliceChecks}
 use Rattle.code.specs.Recovered.{Reading, nothing, message, several, told, recoverChecks}
 use Rattle.code.proofs.Checks.{slices-value, slices-passed, call-past}
 use Rattle.code.proofs.Recoveries.{readingOf, recovered-refused, recovered-told}
-use Rattle.code.proofs.Weights.{size-4}
+use Rattle.code.proofs.Weights.{size-from-genus}
 use Rattle.lines.specs.Sheet.{outcomeOf}
 
 -- ok, none or several
@@ -35,7 +35,7 @@ module _ (block : List ℕ) (long : length block ≡ 64) where
   bad = firstBad (badValue true 16) block
 
   checked : (o : Outcome) → o ≡ sliceChecks true 16 64 block 32 32 Done → recoverChecks 4 37 block (replicate 32 0) ≡ o
-  checked o e = sym (call-past true true 4 37 block 32 o 64 32 (inr refl, omega arith) refl (sym (size-4 37 (omega arith))) e)
+  checked o e = sym (call-past true true 4 37 block 32 o 64 32 (inr refl, omega arith) refl (sym (size-from-genus 4 (omega arith) 37 (omega arith))) e)
 
   pub bad-exactly : ((bad < 64) × (number (outcomeOf block) ≡ 4)) ⊎ ((64 ≤ bad) × Read (number (outcomeOf block)))
   bad-exactly =

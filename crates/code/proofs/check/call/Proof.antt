@@ -7,8 +7,11 @@ use native.Mathlib.Omega.{arith}
 use borrow.Author.Needs.{needs}
 use denote.Ref.{now}
 use Rattle.field.specs.Curve.{IsCurve}
+use Rattle.field.specs.declared.curve.Curve.{Curve}
+use Rattle.field.specs.declared.outcome.Outcome.the-variants.{Done}
 use Rattle.field.proofs.Curves.{sizes}
 use Rattle.code.specs.Terms.{size}
+use Rattle.code.specs.Checks.{sliceChecks}
 use Rattle.code.proofs.Weights.{size-le}
 use Rattle.code.proofs.Checks.{order-done, call-past}
 use Rattle.code.proofs.Answers.{order-refused}
@@ -28,44 +31,42 @@ enum-told c = search needs
 returns : tie.Need-returns
 returns c = order-refused (c .before .before .before .args .q) (c .before .before .before .args .m) _ (c .before .order .ensures) (c .match .keys2) _
 
-mul-symbols : tie.Need-mul-symbols
-mul-symbols c = omega (arith, sizes _ (ordered c .0) .symbols)
-
-cast-n : tie.Need-cast-n
-cast-n c = omega (arith, sizes _ (ordered c .0) .symbols)
-
-mul-n : tie.Need-mul-n
-mul-n c = omega (arith, sizes _ (ordered c .0) .points)
+at-requires : tie.Need-at-requires
+at-requires c κs = ordered c .0
 
 size-requires : tie.Need-size-requires
-size-requires c κs = (ordered c .0, omega (arith, ordered c .1, sizes _ (ordered c .0) .points))
+size-requires c κs = let o = ordered (c .before) in (o .0, omega (arith, o .1, sizes _ (o .0) .points))
 
 slices-requires : tie.Need-slices-requires
-slices-requires c κs = omega (arith, sizes _ (ordered (c .before .before) .0) .points)
+slices-requires c κs = rw (c .before .before .at .ensures) (omega (arith, sizes _ (ordered (c .before .before .before) .0) .points))
 
 slices-requires-2 : tie.Need-slices-requires-2
 slices-requires-2 c κs =
-    let x = c .before .before .before .before .before .before .args in
-    let o = ordered (c .before .before) in
+    let x = c .before .before .before .before .before .before .before .args in
+    let o = ordered (c .before .before .before) in
     omega (arith, c .before .size .ensures, size-le (x .q) (x .m), o .1, sizes _ (o .0) .points)
 
 returns-2 : tie.Need-returns-2
 returns-2 c =
-    let x = c .before .before .before .before .before .before .before .args in
-    let k = c .before .before .size .ensures in
+    let x = c .before .before .before .before .before .before .before .before .args in
+    let r = c .before .before .size in
+    let k = r .ensures in
     let d = c .before .if1 .taken in
-    call-past (x .gaps) (x .decodes) (x .q) (x .m) (now (x .input)) (x .room) _ _ _ (ordered (c .before .before .before))
+    call-past (x .gaps) (x .decodes) (x .q) (x .m) (now (x .input)) (x .room) _ _ _ (ordered (c .before .before .before .before))
     (sym (ap (λ (b : Bool). cond b (x .q * x .q * x .q) (size (x .q) (x .m))) d))
-    (k ∙ sym (ap (λ (b : Bool). cond b (size (x .q) (x .m)) (x .q * x .q * x .q)) d)) (c .slices .ensures)
+    (k ∙ sym (ap (λ (b : Bool). cond b (size (x .q) (x .m)) (x .q * x .q * x .q)) d))
+    (c .slices .ensures ∙ ap (λ (v : Curve). sliceChecks (x .gaps) (v .symbols) (v .points) (now (x .input)) (r .result) (x .room) Done) (c .before .before .before .at .ensures))
 
 returns-3 : tie.Need-returns-3
 returns-3 c =
-    let x = c .before .before .before .before .before .before .before .args in
-    let k = c .before .before .size .ensures in
+    let x = c .before .before .before .before .before .before .before .before .args in
+    let r = c .before .before .size in
+    let k = r .ensures in
     let d = c .before .if1 .left in
-    call-past (x .gaps) (x .decodes) (x .q) (x .m) (now (x .input)) (x .room) _ _ _ (ordered (c .before .before .before))
+    call-past (x .gaps) (x .decodes) (x .q) (x .m) (now (x .input)) (x .room) _ _ _ (ordered (c .before .before .before .before))
     (k ∙ sym (ap (λ (b : Bool). cond b (x .q * x .q * x .q) (size (x .q) (x .m))) d))
-    (sym (ap (λ (b : Bool). cond b (size (x .q) (x .m)) (x .q * x .q * x .q)) d)) (c .slices2 .ensures)
+    (sym (ap (λ (b : Bool). cond b (size (x .q) (x .m)) (x .q * x .q * x .q)) d))
+    (c .slices2 .ensures ∙ ap (λ (v : Curve). sliceChecks (x .gaps) (v .symbols) (r .result) (now (x .input)) (v .points) (x .room) Done) (c .before .before .before .at .ensures))
 
 pub call-spec : {M : Type 1} → statement M
 call-spec =
@@ -74,9 +75,7 @@ call-spec =
     order-requires
     enum-told
     returns
-    mul-symbols
-    cast-n
-    mul-n
+    at-requires
     size-requires
     slices-requires
     slices-requires-2

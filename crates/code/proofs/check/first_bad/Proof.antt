@@ -6,8 +6,8 @@ use native.Mathlib.Nat.{zero-add}
 use native.Mathlib.Omega.{arith}
 use lib.ListN.{length, drop}
 use borrow.Author.Needs.{needs}
-use Rattle.code.specs.Checks.{badValue, firstBad}
-use Rattle.code.proofs.Checks.{bad-found, bad-turn, bad-none}
+use Rattle.field.specs.Values.{badValue, firstBad}
+use Rattle.field.proofs.Values.{bad-found, bad-turn, bad-none}
 use Rattle.code.proofs.check.first_bad.Statement.{statement}
 use Rattle.code.proofs.check.first_bad.Tie as tie
 

@@ -3,12 +3,13 @@
 use mathlib.Core.Bool.{false}
 use mathlib.Core.List.{List}
 use mathlib.Core.Path.{_≡_, sym, ap, _∙_, subst}
-use Prim.Native.Nat.{ℕ, _*_, _<_}
+use Prim.Native.Nat.{ℕ, _*_, _≤_, _<_}
 use native.Mathlib.Omega.{arith}
 use borrow.Author.Needs.{needs}
 use denote.Ref.{now}
 use lib.ListN.{length, take}
 use Rattle.field.specs.Curve.{IsCurve}
+use Rattle.field.specs.declared.curve.Curve.{Curve}
 use Rattle.field.specs.declared.outcome.Outcome.the-variants.{Done}
 use Rattle.field.proofs.Curves.{sizes}
 use Rattle.code.specs.Points.{columnsOf}
@@ -29,9 +30,16 @@ passed : (c : tie.After-enum-told) → let x = c .before .before .before .before
     IsCurve (x .q) × (x .m < x .q * x .q * x .q) × Accepted false (x .q * x .q) (size (x .q) (x .m)) (now (x .message)) (x .q * x .q * x .q) (length (now (x .word)))
 passed c = let x = c .before .before .before .before .before .args in call-done false false (x .q) (x .m) (now (x .message)) (length (now (x .word))) (sym (c .before .before .call .ensures) ∙ c .enum-told .given .1)
 
--- the columns that were lent
-columns-are : (c : tie.After-columns) → let x = c .before .before .before .before .before .before .args in take (x .q * x .q) (c .columns .result) ≡ columnsOf (x .q)
-columns-are c = let q = c .before .before .before .before .before .before .args .q in ap (take (q * q)) (c .columns .ensures) ∙ columns-take q (passed (c .before) .0)
+-- the columns that are lent
+columns-are : (c : tie.After-at) → let x = c .before .before .before .before .before .before .before .args in take (c .at .result .symbols) (c .before .columns .result) ≡ columnsOf (x .q)
+columns-are c =
+    let q = c .before .before .before .before .before .before .before .args .q in
+    ap (λ (v : Curve). take (v .symbols) (c .before .columns .result)) (c .at .ensures) ∙ ap (take (q * q)) (c .before .columns .ensures)
+    ∙ columns-take q (passed (c .before .before) .0)
+
+-- as many as there are symbols
+columns-long : (c : tie.After-at) → c .at .result .symbols ≡ length (take (c .at .result .symbols) (c .before .columns .result))
+columns-long c = ap (λ (v : Curve). v .symbols) (c .at .ensures) ∙ sym (ap length (columns-are c) ∙ length-upTo _)
 
 call-requires : tie.Need-call-requires
 call-requires c κs = search needs
@@ -46,23 +54,25 @@ returns c = let x = c .before .before .before .before .args in entry-refused _ _
 columns-requires : tie.Need-columns-requires
 columns-requires c κs = search needs
 
-mul-c : tie.Need-mul-c
-mul-c c = omega (arith, sizes _ (passed (c .before) .0) .symbols)
+at-requires : tie.Need-at-requires
+at-requires c κs = passed (c .before) .0
 
 cast-c : tie.Need-cast-c
-cast-c c = omega (arith, sizes _ (passed (c .before) .0) .symbols)
+cast-c c = search needs
 
 array-share-prefix-columns : tie.Need-array-share-prefix-columns
-array-share-prefix-columns c = omega (arith, ap length (c .columns .ensures), length-upTo 16, sizes _ (passed (c .before) .0) .symbols)
+array-share-prefix-columns c =
+    let few : c .before .at .result .symbols ≤ 16 = rw (c .before .at .ensures) (sizes _ (passed (c .before .before .before) .0) .symbols) in
+    omega (arith, ap length (c .before .before .columns .ensures), length-upTo 16, few)
 
 slice-aggregate-write-word : tie.Need-slice-aggregate-write-word
-slice-aggregate-write-word c = sym (ap length (columns-are (c .before)) ∙ length-upTo _)
+slice-aggregate-write-word c = columns-long (c .before .before)
 
 write-word-requires : tie.Need-write-word-requires
 write-word-requires c κs =
-    let x = c .before .before .before .before .before .before .before .before .args in
-    let p = passed (c .before .before .before) in
-    subst (λ (l : List ℕ). Encodable (x .q) l (x .m) (now (x .message)) (now (x .word))) (sym (columns-are (c .before .before))) (encodable (x .q) (x .m) (now (x .message)) (now (x .word)) (p .0) (p .1) (p .2))
+    let x = c .before .before .before .before .before .before .before .before .before .before .args in
+    let p = passed (c .before .before .before .before .before) in
+    subst (λ (l : List ℕ). Encodable (x .q) l (x .m) (now (x .message)) (now (x .word))) (sym (columns-are (c .before .before .before))) (encodable (x .q) (x .m) (now (x .message)) (now (x .word)) (p .0) (p .1) (p .2))
 
 same-length : tie.Need-same-length
 same-length c = search needs
@@ -70,9 +80,9 @@ same-length c = search needs
 returns-2 : tie.Need-returns-2
 unfolding encoded
 returns-2 c =
-    let x = c .before .before .before .before .before .before .before .before .before .before .before .args in
-    not-refused _ (now (x .word)) _ (sym (c .before .before .before .before .before .before .before .before .call .ensures) ∙ c .before .before .before .before .before .before .enum-told .given .1)
-    ∙ ap (answered Done) (sym (c .before .before .write-word .ensures ∙ ap (λ (l : List ℕ). wordOf (x .q) l (x .m) (now (x .message))) (columns-are (c .before .before .before .before .before))))
+    let x = c .before .before .before .before .before .before .before .before .before .before .before .before .before .args in
+    not-refused _ (now (x .word)) _ (sym (c .before .before .before .before .before .before .before .before .before .before .call .ensures) ∙ c .before .before .before .before .before .before .before .before .enum-told .given .1)
+    ∙ ap (answered Done) (sym (c .before .before .write-word .ensures ∙ ap (λ (l : List ℕ). wordOf (x .q) l (x .m) (now (x .message))) (columns-are (c .before .before .before .before .before .before))))
 
 pub encode-spec : {M : Type 1} → statement M
 encode-spec =
@@ -82,7 +92,7 @@ encode-spec =
     enum-told
     returns
     columns-requires
-    mul-c
+    at-requires
     cast-c
     array-share-prefix-columns
     slice-aggregate-write-word

@@ -9,7 +9,8 @@ use borrow.Author.Needs.{needs}
 use denote.Ref.{now}
 use lib.ListN.{length, getD, take, length-set}
 use Rattle.code.specs.Grid.{rank}
-use Rattle.code.proofs.GridEntries.{gathered, termList, terms-start, terms-turn, terms-skip, gather-end, rank-turn, rank-skip, rank-zero, rank-lt, entry-le}
+use Rattle.code.proofs.Weights.{rank-zero}
+use Rattle.code.proofs.GridEntries.{gathered, termList, terms-start, terms-turn, terms-skip, gather-end, rank-turn, rank-skip, rank-lt, entry-le}
 use Rattle.code.proofs.grid.gather.Statement.{statement}
 use Rattle.code.proofs.grid.gather.Tie as tie
 

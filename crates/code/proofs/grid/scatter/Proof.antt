@@ -9,7 +9,8 @@ use borrow.Author.Needs.{needs}
 use denote.Ref.{now}
 use lib.ListN.{length, length-set}
 use Rattle.code.specs.Grid.{rank, scatterBelow}
-use Rattle.code.proofs.GridEntries.{length-scatter, scatter-zero, scatter-turn, scatter-skip, rank-turn, rank-skip, rank-zero, rank-lt, entry-le}
+use Rattle.code.proofs.Weights.{rank-zero}
+use Rattle.code.proofs.GridEntries.{length-scatter, scatter-zero, scatter-turn, scatter-skip, rank-turn, rank-skip, rank-lt, entry-le}
 use Rattle.code.proofs.grid.scatter.Statement.{statement}
 use Rattle.code.proofs.grid.scatter.Tie as tie
 

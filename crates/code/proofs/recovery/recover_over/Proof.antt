@@ -2,31 +2,34 @@
 -- Assumes nothing.
 use mathlib.Core.Bool.{false}
 use mathlib.Core.List.{List}
-use mathlib.Core.Path.{_≡_, refl, sym, _∙_, subst}
+use mathlib.Core.Path.{_≡_, refl, sym, ap, _∙_, subst}
 use Prim.Native.Nat.{ℕ, _*_}
 use native.Mathlib.Omega.{arith}
 use borrow.Author.Needs.{needs}
 use denote.Ref.{now}
 use lib.ListN.{length}
+use Rattle.field.specs.Values.{badValue, firstBad}
+use Rattle.field.specs.declared.curve.Curve.{Curve}
 use Rattle.field.proofs.Curves.{sizes}
 use Rattle.code.specs.Terms.{size}
 use Rattle.code.specs.Word.{wordOf}
-use Rattle.code.specs.Checks.{badValue}
 use Rattle.code.specs.Answers.{answered}
 use Rattle.code.specs.Recovered.{reading, told}
 use Rattle.code.specs.Readable.{Readable}
-use Rattle.code.proofs.Checks.{all-good}
+use Rattle.field.proofs.Values.{all-good}
 use Rattle.code.proofs.FullColumns.{accepted-symbols}
 use Rattle.code.proofs.WordGrids.{whole-told}
 use Rattle.code.proofs.recovery.recover_over.Statement.{statement}
 use Rattle.code.proofs.recovery.recover_over.Tie as tie
 
 -- where the search for a value that is no symbol finds none
-whole : (c : tie.Then1) → let x = c .before .before .before .before .before .args in Readable (x .q) (now (x .columns)) (x .m) (now (x .word)) (now (x .message))
+whole : (c : tie.Then1) → let x = c .before .before .before .before .before .before .args in Readable (x .q) (now (x .columns)) (x .m) (now (x .word)) (now (x .message))
 whole c =
-    let x = c .before .before .before .before .before .args in
-    let h = c .before .before .before .before .before .pre in
+    let x = c .before .before .before .before .before .before .args in
+    let h = c .before .before .before .before .before .before .pre in
     let b = h .0 in
+    let none : c .before .first-bad .result ≡ firstBad (badValue false (x .q * x .q)) (now (x .word)) =
+    c .before .first-bad .ensures ∙ ap (λ (v : Curve). firstBad (badValue false (v .symbols)) (now (x .word))) (c .before .before .at .ensures) in
     record {
       whole = record {
         over = b .over;
@@ -34,7 +37,7 @@ whole c =
         long = b .long;
         symbols = accepted-symbols (x .q) (b .over .curve) (length (now (x .word))) (now (x .word)) 0 0 (record {
           long = refl;
-          good = all-good (badValue false (x .q * x .q)) (now (x .word)) (omega (arith, c .before .first-bad .ensures, c .if1));
+          good = all-good (badValue false (x .q * x .q)) (now (x .word)) (omega (arith, none, c .if1));
           fits = refl;
         });
       };
@@ -42,8 +45,8 @@ whole c =
       room = h .2;
     }
 
-mul-symbols : tie.Need-mul-symbols
-mul-symbols c = omega (arith, sizes _ (c .before .before .before .pre .0 .over .curve) .symbols)
+at-requires : tie.Need-at-requires
+at-requires c κs = c .before .before .before .pre .0 .over .curve
 
 first-bad-requires : tie.Need-first-bad-requires
 first-bad-requires c κs = search needs
@@ -56,7 +59,7 @@ same-length c = search needs
 
 returns : tie.Need-returns
 returns c =
-    let x = c .before .before .before .before .before .before .before .before .before .args in
+    let x = c .before .before .before .before .before .before .before .before .before .before .args in
     let r = c .before .before .read-word in
     let w = whole (c .before .before .before .before) in
     subst (λ (Q : ℕ). told (reading Q (size (x .q) (x .m)) (wordOf (x .q) (now (x .columns)) (x .m)) (now (x .word))) (now (x .message)) ≡ answered (r .result) (r .last .1 .1 .1 .1 .0))
@@ -76,7 +79,7 @@ pub recover-over-spec : {M : Type 1} → statement M
 recover-over-spec =
     tie.close
     (tie.spec
-    mul-symbols
+    at-requires
     first-bad-requires
     read-word-requires
     same-length

@@ -7,6 +7,7 @@ use borrow.Author.Needs.{needs}
 use borrow.Author.Tests.{le-leb, lt-leb}
 use Rattle.field.specs.Curve.{IsCurve, curveOf}
 use Rattle.field.specs.declared.curve.Curve.{Curve}
+use Rattle.field.specs.Values.{firstBad}
 use Rattle.field.proofs.Curves.{named, unnamed, curve-true}
 use Rattle.field.proofs.entry.check.Statement.{statement}
 use Rattle.field.proofs.entry.check.Tie as tie
@@ -33,11 +34,13 @@ returns : tie.Need-returns
 returns c = rw (unnamed _ (sym (c .before .before .of .ensures) ∙ c .enum-told .given .1))
 
 returns-2 : tie.Need-returns-2
+unfolding firstBad
 returns-2 c =
     let x = c .before .before .before .before .before .before .args in
     rw (curve-true (x .q) (found (c .before) .0), le-leb (x .q * x .q) (x .a) (omega (arith, c .if1 .taken, symbols (c .before))))
 
 returns-3 : tie.Need-returns-3
+unfolding firstBad
 returns-3 c =
     let x = c .before .before .before .before .before .before .before .before .args in
     let e = symbols (c .before .before .before) in
@@ -48,6 +51,7 @@ returns-3 c =
     )
 
 returns-4 : tie.Need-returns-4
+unfolding firstBad
 returns-4 c =
     let x = c .before .before .before .before .before .before .before .before .args in
     let e = symbols (c .before .before .before) in

@@ -1,7 +1,7 @@
 -- The equation of a symbol, as the code writes it.
 -- Assumes nothing.
 use mathlib.Core.Bool.{true}
-use mathlib.Core.List.{List, _++_}
+use mathlib.Core.List.{List}
 use mathlib.Core.Path.{_≡_, refl, sym, ap, ap₂, _∙_, subst}
 use Prim.Native.Nat.{ℕ, suc, _+_, _-_, _*_, _/_, _%_, _≤_, _<_}
 use native.Mathlib.Nat.{mod-lt, mul-le-mul, lt-mul-div-succ}
@@ -9,7 +9,7 @@ use native.Mathlib.Decide.{ℕ-discrete}
 use native.Mathlib.Omega.{arith}
 use borrow.Author.Tests.{eq-eqb, ne-eqb}
 use borrow.Rule.Slice.PartMut.{putMid}
-use lib.ListN.{length, getD, drop, set, replicate, length-append, length-drop, List·getD-append}
+use lib.ListN.{length, getD, set, replicate}
 use lib.Seq.{getD-set-same, getD-set-other}
 use Rattle.field.specs.Curve.{IsCurve}
 use Rattle.field.specs.Power.{power}
@@ -24,20 +24,21 @@ use Rattle.poly.specs.Systems.{Equation, Brought}
 use Rattle.poly.specs.declared.system.Effect.{Effect}
 use Rattle.poly.proofs.Bringing.{brought-same}
 use Rattle.poly.proofs.Blocks.{blocks-more, blocks-at}
+use Rattle.poly.proofs.Lists.{getD-map}
 use Rattle.poly.proofs.Multiples.{length-scaled, scaled-in, below-scaled}
 use Rattle.poly.proofs.Parts.{length-part}
 use Rattle.poly.proofs.Writes.{length-writes, writes-in, below-writes}
 use Rattle.poly.proofs.Entries.{below-zeros}
 use Rattle.code.specs.Terms.{isTerm, weights, size}
 use Rattle.code.specs.Word.{monomial}
-use Rattle.code.specs.Grid.{entryOf, gather}
+use Rattle.code.specs.Grid.{entryOf, entriesOf, listed}
 use Rattle.code.specs.Recovering.{termAt, EquationAt}
 use Rattle.code.specs.Points.{ysOf}
 use Rattle.code.specs.Columns.{Columns, Ys}
 use Rattle.code.specs.Rows.{rowOf, equationOf}
 use Rattle.code.proofs.Passing.{at-place}
 use Rattle.code.proofs.Weights.{entry-x, entry-y}
-use Rattle.code.proofs.GridEntries.{Split, length-gather, gather-number}
+use Rattle.code.proofs.GridEntries.{Split, length-entries, entry-at-most}
 use Rattle.code.proofs.Stages.{rows-fit}
 use Rattle.code.proofs.YsTables.{table-fits, table-at}
 
@@ -102,22 +103,35 @@ module _ (q x y : ℕ) (curve : IsCurve q) where
       ∙ ap₂ (termAt q x y) (entry-x q pos w t) (entry-y q pos w t)
 
   -- the terms of the order m, gathered, and the symbol after them
-  pub equation-written : (m s k : ℕ) (grid row new : List ℕ) → k ≡ size q m → k < length row → Blocks q (termAt q x y) grid (m / q + 1)
-      → new ≡ gather q m grid → EquationAt q m x y s (set (new ++ drop k row) k s)
-  equation-written m s k grid row new is-k fits h e =
+  pub equation-written : (m s : ℕ) (entries grid row : List ℕ) → entries ≡ entriesOf q m → size q m < length row
+      → Blocks q (termAt q x y) grid (m / q + 1)
+      → EquationAt q m x y s (set (writes row (length entries) (listed entries grid)) (length entries) s)
+  equation-written m s entries grid row e fits h =
       record {
         coefficients = λ n l.
             let w = at-place (isTerm q) (suc m) n l in
-            getD-set-other (new ++ drop k row) k n s 0 (omega arith)
-            ∙ List·getD-append new (drop k row) 0 n (omega (arith, long))
-            ∙ ap (λ (t : List ℕ). getD t n 0) e ∙ gather-number q m grid n l ∙ term-entry m grid h (getD (weights q m) n 0) (w .1) (omega (arith, w .0));
+            getD-set-other new (length entries) n s 0 (omega (arith, long))
+            ∙ writes-in row (listed entries grid) (length entries) n (omega (arith, long)) (omega (arith, long))
+            ∙ ap (λ (t : List ℕ). listed t grid n) e ∙ ap (λ (i : ℕ). getD grid i 0) (getD-map (entryOf q) (weights q m) 0 0 n l)
+            ∙ term-entry m grid h (getD (weights q m) n 0) (w .1) (omega (arith, w .0));
         side =
-            ap (entry (set (new ++ drop k row) k s)) (sym is-k)
-            ∙ getD-set-same (new ++ drop k row) k s 0 (rw (length-append, length-drop) (omega (arith, long)));
+            ap (entry (set new (length entries) s)) (sym long)
+            ∙ getD-set-same new (length entries) s 0 (omega (arith, long, length-writes row (listed entries grid) (length entries)));
       }
     where
-      long : length new ≡ size q m
-      long = ap length e ∙ length-gather q m grid
+      new : List ℕ
+      new = writes row (length entries) (listed entries grid)
+
+      long : length entries ≡ size q m
+      long = ap length e ∙ length-entries q m
+
+  -- each entry is in a grid that has an entry m
+  pub entries-fit : (m : ℕ) (entries grid : List ℕ) → entries ≡ entriesOf q m → m < length grid
+      → (n : ℕ) → n < length entries → getD entries n 0 < length grid
+  entries-fit m entries grid e fits n l =
+      let i : n < size q m = omega (arith, ap length e, length-entries q m) in
+      let pos : 0 < q = omega (arith, sizes q curve .low) in
+      omega (arith, ap (λ (t : List ℕ). getD t n 0) e, entry-at-most q pos m n i)
 
 -- ---- the equation of a place
 

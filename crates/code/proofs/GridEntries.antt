@@ -2,24 +2,40 @@
 -- Assumes nothing.
 use mathlib.Core.Bool.{Bool, true, false}
 use mathlib.Core.Logic.{_⊎_, inl, inr}
-use mathlib.Core.List.{List, [], _∷_, map, map-append}
-use mathlib.Core.Path.{_≡_, refl, sym, ap, _∙_}
+use mathlib.Core.List.{List}
+use mathlib.Core.Path.{_≡_, refl, sym, ap, ap₂, _∙_}
 use Prim.Native.Nat.{ℕ, zero, suc, _+_, _-_, _*_, _/_, _%_, _≤_, _<_}
 use native.Mathlib.Decide.{decLt, ℕ-discrete}
-use native.Mathlib.Nat.{mul-le-mul-left, div-add-mod, add-mul, mul-suc}
+use native.Mathlib.Nat.{mul-le-mul-left, div-add-mod, add-mul}
 use native.Mathlib.Numerals.{add-one}
 use native.Mathlib.Omega.{arith}
-use borrow.Author.Tests.{le-leb, lt-leb}
+use borrow.Author.Tests.{leb-true}
 use lib.ListN.{length, getD, take, set, replicate, length-set, length-replicate, length-map}
-use lib.Seq.{take-suc-set, take-all, getD-set-same, getD-set-other, ext-getD}
+use lib.Seq.{length-take-le, getD-take, getD-set-same, getD-set-other, ext-getD}
+use Rattle.poly.specs.Ranges.{writes}
 use Rattle.poly.proofs.Bools.{true-or-false}
 use Rattle.poly.proofs.Lists.{getD-map}
 use Rattle.poly.proofs.Entries.{getD-zeros}
-use Rattle.code.specs.Passing.{passing}
+use Rattle.poly.proofs.Writes.{length-writes, writes-in}
 use Rattle.code.specs.Terms.{isTerm, weights, size}
-use Rattle.code.specs.Grid.{weightOf, entryOf, rank, scatterBelow, scatter, gather, entriesOf}
-use Rattle.code.proofs.Passing.{passing-true, passing-false, passing-at, at-place, place-lt, place-true, place-false}
-use Rattle.code.proofs.Weights.{weight-of-entry, entry-of-weight, entry-term}
+use Rattle.code.specs.Grid.{weightOf, entryOf, rank, scatterBelow, scatter, gather, entriesOf, listed, WeightOfTerm}
+use Rattle.code.proofs.Passing.{passing-at, at-place, place-lt, place-true, place-false}
+use Rattle.code.proofs.Weights.{rank-zero, weight-of-entry, entry-of-weight, entry-term, weight-number}
+
+-- a grid with coefficient i at entry i of a list, for each i below n
+unfoldable pub laid : List ℕ → List ℕ → List ℕ → ℕ → List ℕ
+laid entries message grid zero = grid
+laid entries message grid (suc n) = set (laid entries message grid n) (getD entries n 0) (getD message n 0)
+
+module _ (entries message grid : List ℕ) where
+  pub laid-none : laid entries message grid 0 ≡ grid
+  unfolding laid
+  laid-none = refl
+
+  pub laid-turn : (g : List ℕ) (n e : ℕ) → g ≡ laid entries message grid n → e ≡ getD entries n 0
+      → set g e (getD message n 0) ≡ laid entries message grid (n + 1)
+  unfolding laid
+  laid-turn g n e h k = rw (add-one n, h, k)
 
 module _ (q n : ℕ) (message : List ℕ) where
   pub scatter-term : (w : ℕ) → isTerm q w ≡ true
@@ -132,82 +148,82 @@ module _ (q : ℕ) (pos : 0 < q) (n m : ℕ) where
                 ∙ ap (λ (v : ℕ). getD grid v 0) (entry-of-weight q pos e)
           ]
 
--- ---- turns of the loops over the weights: i and j are w divided by q, with its remainder, as the code has them
+-- ---- the terms by their numbers
 
+-- w divided by q, with its remainder, as the code has them
 abbrev pub Split : ℕ → ℕ → ℕ → ℕ → Type 0
 Split q w i j = (i ≡ w / q) × (j ≡ w % q)
 
 split-sum : (q w i j : ℕ) → Split q w i j → w ≡ q * i + j
 split-sum q w i j d = omega (arith, div-add-mod w q, ap (λ (x : ℕ). q * x) (d .0), d .1)
 
-is-term : (q w i j : ℕ) → Split q w i j → j ≤ i → isTerm q w ≡ true
-is-term q w i j d l = le-leb (w % q) (w / q) (omega (arith, d .0, d .1))
+-- y^j alone weighs no more than the term, and the entry is what the weight of x^i and j add up to
+pub in-y-le : (q w i j : ℕ) → isTerm q w ≡ true → Split q w i j → (q + 1) * j ≤ w
+in-y-le q w i j t d =
+    let l : j ≤ i = omega (arith, d .0, d .1, leb-true (w % q) (w / q) t) in
+    omega (arith, add-mul q 1 j, split-sum q w i j d, mul-le-mul-left q l)
 
-no-term : (q w i j : ℕ) → Split q w i j → i < j → isTerm q w ≡ false
-no-term q w i j d l = lt-leb (w % q) (w / q) (omega (arith, d .0, d .1))
+pub entry-is : (q w i j : ℕ) → isTerm q w ≡ true → Split q w i j → w - (q + 1) * j + j ≡ entryOf q w
+entry-is q w i j t d = omega (arith, add-mul q 1 j, in-y-le q w i j t d, ap (λ (x : ℕ). q * x) (d .1))
 
-module _ (q n : ℕ) (message grid : List ℕ) (w k i j : ℕ) (d : Split q w i j) (e : grid ≡ scatterBelow q n message w) (h : k ≡ rank q w) where
-  pub scatter-turn : j ≤ i → set grid (w - q * j) (getD message k 0) ≡ scatterBelow q n message (w + 1)
-  scatter-turn l = rw (e, h, d .1, add-one w) (sym (scatter-term q n message w (is-term q w i j d l)))
+pub length-entries : (q m : ℕ) → length (entriesOf q m) ≡ size q m
+length-entries q m = length-map (weights q m) (entryOf q)
 
-  pub scatter-skip : i < j → grid ≡ scatterBelow q n message (w + 1)
-  scatter-skip l = rw (add-one w) (e ∙ sym (scatter-none q n message w (no-term q w i j d l)))
+-- the entries, as the code lists them
+pub entries-taken : (q m k : ℕ) (list l : List ℕ) → k ≡ size q m → k ≤ length l → list ≡ writes l (size q m) (λ n. getD (entriesOf q m) n 0)
+    → take k list ≡ entriesOf q m
+entries-taken q m k list l e fits h =
+    ext-getD 0 (take k list) (entriesOf q m) (long ∙ e ∙ sym (length-entries q m))
+    (λ n b.
+    let i : n < k = omega (arith, long) in
+    getD-take k list n 0 i ∙ ap (λ (t : List ℕ). getD t n 0) h
+    ∙ writes-in l (λ n. getD (entriesOf q m) n 0) (size q m) n (omega arith) (omega arith))
+  where
+    long : length (take k list) ≡ k
+    long = length-take-le k list (omega (arith, fits, ap length h, length-writes l (λ n. getD (entriesOf q m) n 0) (size q m)))
 
-module _ (q w k i j : ℕ) (d : Split q w i j) (h : k ≡ rank q w) where
-  pub rank-turn : j ≤ i → k + 1 ≡ rank q (w + 1)
-  rank-turn l = rw (add-one w, add-one k) (ap suc h ∙ sym (place-true (isTerm q) w (is-term q w i j d l)))
+module _ (q : ℕ) (pos : 0 < q) (m : ℕ) where
+  pub entry-number : (n w : ℕ) → WeightOfTerm q n w → n < size q m → getD (entriesOf q m) n 0 ≡ entryOf q w
+  entry-number n w h l =
+      getD-map (entryOf q) (weights q m) 0 0 n l ∙ ap (entryOf q) (weight-number q pos n w h m l .1)
 
-  pub rank-skip : i < j → k ≡ rank q (w + 1)
-  rank-skip l = rw (add-one w) (h ∙ sym (place-false (isTerm q) w (no-term q w i j d l)))
+  pub entry-at-most : (n : ℕ) → n < size q m → getD (entriesOf q m) n 0 ≤ m
+  entry-at-most n l =
+      let w = at-place (isTerm q) (suc m) n l in
+      omega (arith, getD-map (entryOf q) (weights q m) 0 0 n l, w .0)
 
-  -- a term's index is within the message
-  pub rank-lt : (m : ℕ) → w ≤ m → j ≤ i → k < size q m
-  rank-lt m a l = rw h (place-lt (isTerm q) w (suc m) (is-term q w i j d l) (omega arith))
+  -- ---- a message laid out, coefficient by coefficient
 
--- the code's test: y^j alone weighs no more than w
-pub in-y-le : (q w i j : ℕ) → 0 < q → Split q w i j → (q + 1) * j ≤ w → j ≤ i
-in-y-le q w i j pos d l =
-    elim (decLt i j) [ yes h ↦ absurd (omega (arith, add-mul q 1 j, split-sum q w i j d, mul-suc q i, mul-le-mul-left q h)) | no h ↦ omega arith ]
+  pub laid-scatter : (message : List ℕ) (n w : ℕ) → w ≤ suc m
+      → laid (entriesOf q m) message (replicate n 0) (rank q w) ≡ scatterBelow q n message w
+  unfolding laid
+  laid-scatter message n zero l = ap (laid (entriesOf q m) message (replicate n 0)) (sym (rank-zero q)) ∙ sym (scatter-zero q n message)
+  laid-scatter message n (suc w) l =
+      elim (true-or-false (isTerm q w)) [
+        | inl t ↦
+            let e = entry-number (rank q w) w (t, refl) (place-lt (isTerm q) w (suc m) t (omega arith)) in
+            ap (laid (entriesOf q m) message (replicate n 0)) (place-true (isTerm q) w t)
+            ∙ ap₂ (λ (g : List ℕ) (i : ℕ). set g i (getD message (rank q w) 0)) (laid-scatter message n w (omega arith)) e
+            ∙ sym (scatter-term q n message w t)
+        | inr t ↦
+            ap (laid (entriesOf q m) message (replicate n 0)) (place-false (isTerm q) w t) ∙ laid-scatter message n w (omega arith)
+            ∙ sym (scatter-none q n message w t)
+      ]
 
-pub in-y-gt : (q w i j : ℕ) → Split q w i j → w < (q + 1) * j → i < j
-in-y-gt q w i j d l =
-    elim (decLt i j) [ yes h ↦ h | no h ↦ let k : j ≤ i = omega arith in absurd (omega (arith, add-mul q 1 j, split-sum q w i j d, mul-le-mul-left q k)) ]
+  pub laid-all : (message grid g : List ℕ) (n : ℕ) → grid ≡ replicate (length grid) 0 → g ≡ laid (entriesOf q m) message grid n → n ≡ size q m
+      → g ≡ scatter q (length grid) m message
+  laid-all message grid g n z e h =
+      e ∙ ap₂ (laid (entriesOf q m) message) z h ∙ laid-scatter message (length grid) (suc m) (omega arith)
 
-pub entry-le : (q w i j : ℕ) → Split q w i j → j ≤ i → q * j ≤ w
-entry-le q w i j d l = omega (arith, ap (λ (x : ℕ). q * x) (d .0), ap (λ (x : ℕ). q * x) (d .1), mul-le-mul-left q l, div-add-mod w q)
+  -- ---- and gathered
 
-pub entry-is : (q w i j : ℕ) → Split q w i j → (q + 1) * j ≤ w → w - (q + 1) * j + j ≡ entryOf q w
-entry-is q w i j d l = omega (arith, add-mul q 1 j, ap (λ (x : ℕ). q * x) (d .1))
-
--- a list that is filled from the front with the values of f at the weights below w
-abbrev pub termList : (ℕ → ℕ) → ℕ → ℕ → List ℕ
-termList f q w = map f (passing (isTerm q) w)
-
-pub terms-start : (f : ℕ → ℕ) (q : ℕ) (list : List ℕ) → take 0 list ≡ termList f q 0
-unfolding passing
-terms-start f q list = refl
-
-module _ (f : ℕ → ℕ) (q : ℕ) (list : List ℕ) (w k i j : ℕ) (d : Split q w i j) (e : take k list ≡ termList f q w) where
-  pub terms-turn : (v : ℕ) → k < length list → j ≤ i → v ≡ f w → take (k + 1) (set list k v) ≡ termList f q (w + 1)
-  terms-turn v l t is-v =
-      rw (add-one w, add-one k, take-suc-set list k v l, e, is-v, passing-true (isTerm q) w (is-term q w i j d t))
-      (sym (map-append f (passing (isTerm q) w) (w ∷ [])))
-
-  pub terms-skip : i < j → take k list ≡ termList f q (w + 1)
-  terms-skip t = rw (add-one w, passing-false (isTerm q) w (no-term q w i j d t)) e
-
--- the coefficients of a grid
-abbrev pub gathered : List ℕ → ℕ → ℕ → ℕ
-gathered grid q v = getD grid (entryOf q v) 0
-
-pub entries-end : (q : ℕ) (list : List ℕ) (w k : ℕ) → take k list ≡ termList (entryOf q) q w → (m : ℕ) → w ≡ m + 1 → k ≡ rank q w
-    → (k ≡ size q m) × (take (size q m) list ≡ entriesOf q m)
-entries-end q list w k e m a b =
-    let h : k ≡ size q m = b ∙ ap (rank q) (a ∙ add-one m) in
-    (h, ap (λ (n : ℕ). take n list) (sym h) ∙ e ∙ ap (termList (entryOf q) q) (a ∙ add-one m))
-
-pub gather-end : (q : ℕ) (grid message : List ℕ) (w k : ℕ) → take k message ≡ termList (gathered grid q) q w → (m : ℕ) → w ≡ m + 1 → k ≡ rank q w
-    → length message ≡ size q m → message ≡ gather q m grid
-unfolding gather
-gather-end q grid message w k e m a b h =
-    sym (take-all k message (omega (arith, b, h, ap (rank q) a, ap (rank q) (add-one m)))) ∙ e ∙ ap (termList (gathered grid q) q) (a ∙ add-one m)
+  pub gather-written : (grid message : List ℕ) → length message ≡ size q m → writes message (length message) (listed (entriesOf q m) grid) ≡ gather q m grid
+  gather-written grid message h =
+      let f = listed (entriesOf q m) grid in
+      ext-getD 0 (writes message (length message) f) (gather q m grid)
+      (length-writes message f (length message) ∙ h ∙ sym (length-gather q m grid))
+      (λ n b.
+      let k : n < length message = omega (arith, length-writes message f (length message)) in
+      let i : n < size q m = omega arith in
+      writes-in message f (length message) n k (omega arith) ∙ ap (λ (e : ℕ). getD grid e 0) (getD-map (entryOf q) (weights q m) 0 0 n i)
+      ∙ sym (gather-number q m grid n i))

@@ -4,8 +4,8 @@ use mathlib.Core.Bool.{Bool, true, false}
 use mathlib.Core.List.{List}
 use mathlib.Core.Path.{_≡_, refl, sym, ap, ap₂, _∙_}
 use Prim.Native.Nat.{ℕ, zero, suc, _+_, _-_, _*_, _/_, _%_, _≤_, _<_}
-use native.Mathlib.Decide.{le-ind}
-use native.Mathlib.Nat.{div-add-mod, mod-lt, mul-sub, mul-add, suc-mul, mul-le-mul-left, mul-add-div, mul-add-mod-self-left, mod-eq-of-lt, div-eq-of-lt, add-zero, le-div-iff-mul-le, mul-comm, mul-suc, mul-zero, add-suc, add-mul}
+use native.Mathlib.Decide.{le-ind, decLt}
+use native.Mathlib.Nat.{div-add-mod, mod-lt, mul-sub, mul-add, suc-mul, mul-le-mul-left, mul-add-div, mul-add-mod-self-left, mod-eq-of-lt, div-eq-of-lt, add-zero, le-div-iff-mul-le, mul-comm, mul-suc, mul-zero, add-suc, add-mul, mul-le-mul}
 use native.Mathlib.Numerals.{add-one}
 use native.Mathlib.Omega.{arith}
 use borrow.Author.Tests.{le-leb, lt-leb, leb-true}
@@ -14,9 +14,12 @@ use Rattle.field.specs.Curve.{IsCurve, curveOf}
 use Rattle.field.proofs.Curves.{sizes}
 use Rattle.code.specs.Passing.{passing}
 use Rattle.code.specs.Terms.{isTerm, xPower, yPower, weights, size}
-use Rattle.code.specs.Grid.{weightOf, entryOf, rank}
+use Rattle.code.specs.Grid.{weightOf, entryOf, rank, WeightOfTerm}
 use Rattle.poly.specs.Lists.{Nodup}
-use Rattle.code.proofs.Passing.{passing-at, at-place, place-lt, place-true, place-false, place-bound, nodup-passing}
+use Rattle.code.proofs.Passing.{passing-at, at-place, place-lt, place-true, place-false, place-le, place-bound, nodup-passing}
+
+pub curve-pos : (q : ℕ) → IsCurve q → 0 < q
+curve-pos q curve = omega (arith, sizes q curve .low)
 
 pub rank-zero : (q : ℕ) → 0 ≡ rank q 0
 unfolding passing
@@ -134,12 +137,57 @@ module _ (q : ℕ) (pos : 0 < q) where
   pub twice-genus : 2 * curveOf q .genus ≡ q * (q - 1)
   twice-genus = omega (arith, rows-genus)
 
+  -- from 2g on each number is the weight of the term whose number is g less
+  rank-from-genus : (w : ℕ) → q * (q - 1) ≤ w → rank q w ≡ w - curveOf q .genus
+  rank-from-genus w l =
+      le-ind (λ (w : ℕ). rank q w ≡ w - q * (q - 1) / 2) (omega (arith, rows-genus))
+      (λ w g ih. place-true (isTerm q) w (large-term w g) ∙ omega (arith, ih)) w l
+
+  pub high-weight : (n : ℕ) → curveOf q .genus ≤ n → WeightOfTerm q n (n + curveOf q .genus)
+  high-weight n l =
+      let k : q * (q - 1) ≤ n + curveOf q .genus = omega (arith, twice-genus) in
+      (large-term (n + curveOf q .genus) k, rank-from-genus (n + curveOf q .genus) k ∙ omega arith)
+
   -- "from m = 2g - 1 on it is m + 1 - g"
   pub size-from-genus : (m : ℕ) → q * (q - 1) ≤ m + 1 → size q m ≡ m + 1 - curveOf q .genus
-  size-from-genus m l =
-      rw (add-one m)
-      (le-ind (λ (w : ℕ). rank q w ≡ w - q * (q - 1) / 2) (omega (arith, rows-genus))
-      (λ w g ih. place-true (isTerm q) w (large-term w g) ∙ omega (arith, ih)) (suc m) (omega arith))
+  size-from-genus m l = rw (add-one m) (rank-from-genus (suc m) (omega arith))
+
+  -- before, term n is in the row that the terms before it fill up, and the last row counts up to m
+  pub low-weight : (a b n : ℕ) → 2 * b ≡ a * suc a → a < q → b ≤ n → n ≤ b + a → WeightOfTerm q n (q * a + (n - b))
+  low-weight a b n e l h k =
+      (row-term a (n - b) (omega arith) (omega arith), row-terms a (n - b) (omega arith) l ∙ omega (arith, e, rows-below a (omega arith)))
+
+  pub low-size : (m a b : ℕ) → a ≡ m / q → b ≡ m % q → a < q
+      → (b ≤ a → size q m ≡ a * (a + 1) / 2 + b + 1) × (a ≤ b → size q m ≡ a * (a + 1) / 2 + a + 1)
+  low-size m a b d e l =
+      let s : suc m ≡ q * a + suc b = omega (arith, div-add-mod m q, ap (λ (x : ℕ). q * x) d, e, add-suc (q * a) b) in
+      let small : b < q = rw e (mod-lt m pos) in
+      let r : 2 * rank q (q * a) ≡ a * (a + 1) = rows-below a (omega arith) ∙ ap (λ (x : ℕ). a * x) (sym (add-one a)) in (
+        (λ k. ap (rank q) s ∙ row-terms a (suc b) (omega arith) l ∙ omega (arith, r)),
+        (λ k. ap (rank q) s ∙ row-gaps a l (suc b) (omega arith) small ∙ omega (arith, r)),
+      )
+
+  pub low-row : (m : ℕ) → m + 1 < q * (q - 1) → m / q < q
+  low-row m l =
+      let less : q - 1 ≤ q = omega arith in
+      elim (decLt (m / q) q) [
+        | yes h ↦ h
+        | no d ↦ let i : q ≤ m / q = omega arith in absurd (omega (arith, div-add-mod m q, mul-le-mul-left q i, mul-le-mul-left q less))
+      ]
+
+  -- a row that has terms below the genus is below q
+  pub row-lt : (a : ℕ) → a * suc a < q * (q - 1) → a < q
+  row-lt a l =
+      elim (decLt a q) [
+        | yes h ↦ h
+        | no d ↦ let i : q ≤ a = omega arith in let j : q - 1 ≤ suc a = omega arith in absurd (omega (arith, mul-le-mul i j))
+      ]
+
+  -- the weight of term n is that number of the list
+  pub weight-number : (n w : ℕ) → WeightOfTerm q n w → (m : ℕ) → n < size q m → (w ≤ m) × (getD (weights q m) n 0 ≡ w)
+  weight-number n w h m l =
+      let b : w < suc m = elim (decLt w (suc m)) [ yes h ↦ h | no d ↦ absurd (omega (arith, h .1, place-le (isTerm q) (suc m) w (omega arith))) ] in
+      (omega arith, ap (λ (i : ℕ). getD (weights q m) i 0) (sym (h .1)) ∙ passing-at (isTerm q) (suc m) w (h .0) b)
 
   -- the entry of a weight, and the weight of an entry
   entry-digits : (w : ℕ) → isTerm q w ≡ true → entryOf q w ≡ q * xPower q w + yPower q w
@@ -172,6 +220,11 @@ module _ (q : ℕ) (pos : 0 < q) where
 
 pub size-le : (q m : ℕ) → size q m ≤ suc m
 size-le q m = place-bound (isTerm q) (suc m)
+
+pub genus-small : (q : ℕ) → IsCurve q → curveOf q .genus ≤ 8
+genus-small q curve =
+    let less : q - 1 ≤ q = omega arith in
+    omega (arith, twice-genus q (curve-pos q curve), mul-le-mul-left q less, sizes q curve .symbols)
 
 -- q times a remainder by q is small
 pub small-product : (q : ℕ) → IsCurve q → (w j : ℕ) → j ≡ w % q → q * j ≤ 16

@@ -1,6 +1,7 @@
 -- The grid: a polynomial laid out as a list whose entry e is the coefficient of x^(e / q)·y^(e % q).
 use mathlib.Core.Bool.{Bool, true, cond, _&&_, _||_}
 use mathlib.Core.List.{List, map}
+use mathlib.Core.Path.{_≡_}
 use Prim.Native.Nat.{ℕ, zero, suc, _+_, _-_, _*_, _%_}
 use lib.Dec.{leb, eqb}
 use lib.ListN.{length, getD, set, replicate}
@@ -18,9 +19,17 @@ entryOf q w = w - q * (w % q)
 abbrev pub entriesOf : ℕ → ℕ → List ℕ
 entriesOf q m = map (entryOf q) (weights q m)
 
+-- the coefficients of a grid at the entries of a list
+abbrev pub listed : List ℕ → List ℕ → ℕ → ℕ
+listed entries grid n = getD grid (getD entries n 0) 0
+
 -- how many terms have a weight below w: the index of the coefficient of weight w in a message
 abbrev pub rank : ℕ → ℕ → ℕ
 rank q w = length (passing (isTerm q) w)
+
+-- w is the weight of term n, the terms being counted from 0 by ascending weight
+abbrev pub WeightOfTerm : ℕ → ℕ → ℕ → Type 0
+WeightOfTerm q n w = (isTerm q w ≡ true) × (rank q w ≡ n)
 
 -- the grid of n entries with the coefficients of the terms of weight below w, zero elsewhere
 unfoldable pub scatterBelow : ℕ → ℕ → List ℕ → ℕ → List ℕ

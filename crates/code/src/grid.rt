@@ -1,10 +1,11 @@
 // Messages laid out as grids: entry e is the coefficient of x^(e / q)·y^(e % q).
 ghost use mathlib.Core.Path.{_≡_};
-ghost use Prim.Native.Nat.{_≤_, _<_};
-ghost use lib.ListN.{length, replicate};
+ghost use Prim.Native.Nat.{ℕ, _≤_, _<_};
+ghost use lib.ListN.{length, getD, replicate};
 ghost use Rattle.field.specs.Curve.{IsCurve};
+ghost use Rattle.poly.specs.Ranges.{writes};
 ghost use Rattle.code.specs.Terms.{size};
-ghost use Rattle.code.specs.Grid.{scatter, gather, orderAtMost};
+ghost use Rattle.code.specs.Grid.{listed, scatter, gather, orderAtMost};
 use crate::term;
 
 // Lays a message out in a grid of zeros.
@@ -13,17 +14,12 @@ pub fn scatter(q: u8, m: usize, message: &[u8], grid: &mut [u8])
     requires { ⌜ now grid ≡ replicate (length (now grid)) 0 ⌝ }
     ensures { λ _. ⌜ now (grid .exit) ≡ scatter q (length (now (grid .entry))) m (now (message .entry)) ⌝ }
 {
-    let width = q as usize;
-    let mut w = 0;
+    let k = term::size(q, m);
     let mut n = 0;
-    while w <= m {
-        let d = term::divide(q, w);
-        if d.rest <= d.whole {
-            let e = w - width * d.rest;
-            grid[e] = message[n];
-            n += 1;
-        }
-        w += 1;
+    while n < k {
+        let e = term::entry(q, n);
+        grid[e] = message[n];
+        n += 1;
     }
 }
 
@@ -32,17 +28,25 @@ pub fn gather(q: u8, m: usize, grid: &[u8], message: &mut [u8])
     requires { ⌜ IsCurve q × (m < length (now grid)) × (length (now message) ≡ size q m) ⌝ }
     ensures { λ _. ⌜ now (message .exit) ≡ gather q m (now (grid .entry)) ⌝ }
 {
-    let width = q as usize;
-    let mut w = 0;
     let mut n = 0;
-    while w <= m {
-        let d = term::divide(q, w);
-        if d.rest <= d.whole {
-            let e = w - width * d.rest;
-            message[n] = grid[e];
-            n += 1;
-        }
-        w += 1;
+    while n < message.len() {
+        let e = term::entry(q, n);
+        message[n] = grid[e];
+        n += 1;
+    }
+}
+
+// The coefficients of a grid at the entries of a list.
+pub fn gather_listed(entries: &[u16], grid: &[u8], out: &mut [u8])
+    requires { ⌜ length (now entries) ≤ length (now out) ⌝ }
+    requires { ⌜ ((n : ℕ) → n < length (now entries) → getD (now entries) n 0 < length (now grid)) ⌝ }
+    ensures { λ _. ⌜ now (out .exit) ≡ writes (now (out .entry)) (length (now (entries .entry))) (listed (now (entries .entry)) (now (grid .entry))) ⌝ }
+{
+    let mut n = 0;
+    while n < entries.len() {
+        let e = entries[n] as usize;
+        out[n] = grid[e];
+        n += 1;
     }
 }
 

@@ -10,6 +10,7 @@ ghost use Rattle.poly.specs.Ranges.{writes, Blocks};
 ghost use Rattle.poly.specs.Linear.{entry};
 ghost use Rattle.poly.specs.Systems.{flat, Full, WellFormed, Brought, Solves};
 ghost use Rattle.code.specs.Terms.{size};
+ghost use Rattle.code.specs.Grid.{entriesOf};
 ghost use Rattle.code.specs.Columns.{Columns};
 ghost use Rattle.code.specs.Rows.{equationOf};
 ghost use Rattle.code.specs.Recovering.{termAt, EquationAt, BrokenOver, Advanced, Ended, Finished};
@@ -69,9 +70,9 @@ fn monomials(q: u8, x: u8, y: u8, n: usize, grid: &mut [u8])
     }
 }
 
-// The equation of the symbol s at the point (x, y): the values of the terms there, and s.
-fn write_equation(q: u8, m: usize, k: usize, x: u8, y: u8, s: u8, row: &mut [u8])
-    requires { ⌜ IsCurve q × (m < q * 16) × (k ≡ size q m) × (size q m < length (now row)) ⌝ }
+// The equation of the symbol s at the point (x, y): the values of the terms there, whose entries in a grid are lent, and s.
+fn write_equation(q: u8, m: usize, entries: &[u16], x: u8, y: u8, s: u8, row: &mut [u8])
+    requires { ⌜ IsCurve q × (m < q * 16) × (now entries ≡ entriesOf q m) × (size q m < length (now row)) ⌝ }
     requires { ⌜ (x < fieldOf q .size) × (y < fieldOf q .size) ⌝ }
     ensures { λ _. ⌜ EquationAt q m x y s (now (row .exit)) ⌝ }
 {
@@ -79,7 +80,8 @@ fn write_equation(q: u8, m: usize, k: usize, x: u8, y: u8, s: u8, row: &mut [u8]
     let last = term::divide(q, m);
     let n = last.whole + 1;
     monomials(q, x, y, n, &mut grid);
-    grid::gather(q, m, &grid, &mut row[..k]);
+    grid::gather_listed(entries, &grid, row);
+    let k = entries.len();
     row[k] = s;
 }
 
@@ -88,12 +90,12 @@ fn bring_place(
     q: u8,
     columns: &[u8],
     m: usize,
-    k: usize,
+    entries: &[u16],
     p: usize,
     s: u8,
     work: &mut [u8],
 ) -> Effect
-    requires { ⌜ Columns q (now columns) × (p < q * length (now columns)) × (m < q * 16) × (k ≡ size q m) × (s < fieldOf q .size) ⌝ }
+    requires { ⌜ Columns q (now columns) × (p < q * length (now columns)) × (m < q * 16) × (now entries ≡ entriesOf q m) × (s < fieldOf q .size) ⌝ }
     requires { ⌜ WellFormed (fieldOf q) 64 (size q m) (now work) ⌝ }
     ensures { λ r. ⌜ WellFormed (fieldOf q) 64 (size q m) (now (work .exit)) ⌝ }
     ensures { λ r. ⌜ Brought (fieldOf q) 64 (size q m) (now (work .entry)) (equationOf q (now (columns .entry)) m p s) (now (work .exit)) r ⌝ }
@@ -105,7 +107,8 @@ fn bring_place(
     let at = (q as usize) * (x as usize) + d.rest;
     let y = ys[at];
     let mut row = [0u8; 64];
-    write_equation(q, m, k, x, y, s, &mut row);
+    write_equation(q, m, entries, x, y, s, &mut row);
+    let k = entries.len();
     let n = (k / 16 + 1) * 16;
     system::bring_in(q, 64, n, k, work, &mut row)
 }
@@ -115,13 +118,13 @@ fn step(
     q: u8,
     columns: &[u8],
     m: usize,
-    k: usize,
+    entries: &[u16],
     p: usize,
     s: u8,
     rank: usize,
     work: &mut [u8],
 ) -> Progress
-    requires { ⌜ Columns q (now columns) × (p < q * length (now columns)) × (m < q * 16) × (k ≡ size q m) × (rank < 64) ⌝ }
+    requires { ⌜ Columns q (now columns) × (p < q * length (now columns)) × (m < q * 16) × (now entries ≡ entriesOf q m) × (rank < 64) ⌝ }
     requires { ⌜ ((s ≡ 255 → ⊥) → s < fieldOf q .size) ⌝ }
     requires { ⌜ WellFormed (fieldOf q) 64 (size q m) (now work) ⌝ }
     ensures { λ r. ⌜ Advanced q (now (columns .entry)) m p s rank (now (work .entry)) (now (work .exit)) (r .clash) (r .rank) ⌝ }
@@ -129,7 +132,7 @@ fn step(
     if s == 255 {
         return Progress { clash: false, rank };
     }
-    match bring_place(q, columns, m, k, p, s, work) {
+    match bring_place(q, columns, m, entries, p, s, work) {
         Effect::Pivot => Progress {
             clash: false,
             rank: rank + 1,
@@ -140,18 +143,26 @@ fn step(
 }
 
 // Brings in the symbols of a broken word, by ascending place, until the rows are complete.
-fn collect(q: u8, columns: &[u8], m: usize, k: usize, word: &[u8], work: &mut [u8]) -> Progress
-    requires { ⌜ BrokenOver q (now columns) m (now word) × (k ≡ size q m) ⌝ }
+fn bring_places(
+    q: u8,
+    columns: &[u8],
+    m: usize,
+    entries: &[u16],
+    word: &[u8],
+    work: &mut [u8],
+) -> Progress
+    requires { ⌜ BrokenOver q (now columns) m (now word) × (now entries ≡ entriesOf q m) ⌝ }
     requires { ⌜ WellFormed (fieldOf q) 64 (size q m) (now work) × ((i : ℕ) → entry (now work) i ≡ 0) ⌝ }
     ensures { λ r. ⌜ Ended q (now (columns .entry)) m (now (word .entry)) (now (work .exit)) (r .clash) (r .rank) ⌝ }
 {
+    let k = entries.len();
     let mut rank = 0;
     let mut p = 0;
     while p < word.len() {
         if rank == k {
             return Progress { clash: false, rank };
         }
-        let r = step(q, columns, m, k, p, word[p], rank, work);
+        let r = step(q, columns, m, entries, p, word[p], rank, work);
         if r.clash {
             return r;
         }
@@ -159,6 +170,17 @@ fn collect(q: u8, columns: &[u8], m: usize, k: usize, word: &[u8], work: &mut [u
         p += 1;
     }
     Progress { clash: false, rank }
+}
+
+// The same. The entries of the terms are worked out once for all places.
+fn collect(q: u8, columns: &[u8], m: usize, k: usize, word: &[u8], work: &mut [u8]) -> Progress
+    requires { ⌜ BrokenOver q (now columns) m (now word) × (k ≡ size q m) ⌝ }
+    requires { ⌜ WellFormed (fieldOf q) 64 (size q m) (now work) × ((i : ℕ) → entry (now work) i ≡ 0) ⌝ }
+    ensures { λ r. ⌜ Ended q (now (columns .entry)) m (now (word .entry)) (now (work .exit)) (r .clash) (r .rank) ⌝ }
+{
+    let mut entries = [0u16; 64];
+    term::entries(q, m, &mut entries);
+    bring_places(q, columns, m, &entries[..k], word, work)
 }
 
 // Whether a whole word agrees with a broken one at every place that isn't 255.

@@ -1,10 +1,12 @@
-// The terms x^i·y^j by their weights.
+// The terms x^i·y^j by their weights. Row a is the numbers from q·a to q·a + q − 1: below row q it begins with a + 1 weights of terms and
+// has no others; from row q − 1 on, which begins at 2g, every number is a weight.
 ghost use mathlib.Core.Path.{_≡_};
-ghost use Prim.Native.Nat.{_/_, _%_, _≤_, _<_};
-ghost use lib.ListN.{length, take};
-ghost use Rattle.field.specs.Curve.{IsCurve};
+ghost use Prim.Native.Nat.{ℕ, _/_, _%_, _^_, _≤_, _<_};
+ghost use lib.ListN.{length, getD};
+ghost use Rattle.field.specs.Curve.{IsCurve, curveOf};
+ghost use Rattle.poly.specs.Ranges.{writes};
 ghost use Rattle.code.specs.Terms.{size};
-ghost use Rattle.code.specs.Grid.{entriesOf};
+ghost use Rattle.code.specs.Grid.{WeightOfTerm, entriesOf};
 use field::Curve;
 
 pub struct Quotient {
@@ -30,36 +32,70 @@ pub fn divide(q: u8, w: usize) -> Quotient
     }
 }
 
-// Writes the terms x^i·y^j of the order m by ascending weight, each as its entry q·i + j in a grid, and gives their number.
-pub fn entries(q: u8, m: usize, list: &mut [u16]) -> usize
-    requires { ⌜ IsCurve q × (m < 512) × (size q m ≤ length (now list)) ⌝ }
-    ensures { λ r. ⌜ (r ≡ size q m) × (take (size q m) (now (list .exit)) ≡ entriesOf q m) ⌝ }
-{
-    let curve = Curve::at(q);
-    let mut w = 0;
-    let mut n = 0;
-    while w <= m {
-        let d = divide(q, w);
-        let in_y = curve.weight_y * d.rest;
-        if in_y <= w {
-            let in_x = w - in_y;
-            list[n] = (in_x + d.rest) as u16;
-            n += 1;
-        }
-        w += 1;
-    }
-    n
-}
-
 // How many terms the order m has: k.
 pub fn size(q: u8, m: usize) -> usize
-    requires { ⌜ IsCurve q × (m < 512) ⌝ }
+    requires { ⌜ IsCurve q ⌝ }
     ensures { λ r. ⌜ r ≡ size q m ⌝ }
 {
     let curve = Curve::at(q);
-    if 2 * curve.genus <= m + 1 {
-        return m + 1 - curve.genus;
+    if 2 * curve.genus - 1 <= m {
+        return m - curve.genus + 1;
     }
-    let mut list = [0u16; 64];
-    entries(q, m, &mut list)
+    let d = divide(q, m);
+    let before = d.whole * (d.whole + 1) / 2;
+    if d.rest < d.whole {
+        before + d.rest + 1
+    } else {
+        before + d.whole + 1
+    }
+}
+
+// The weight of term n, for an n below the genus: term n is in the row that the terms before it fill up.
+fn low_weight(q: u8, n: usize) -> usize
+    requires { ⌜ IsCurve q × (n < curveOf q .genus) ⌝ }
+    ensures { λ r. ⌜ WeightOfTerm q n r ⌝ }
+{
+    let mut row = 0;
+    let mut before = 0;
+    while before + row < n {
+        row += 1;
+        before += row;
+    }
+    (q as usize) * row + (n - before)
+}
+
+// The weight of term n, the terms being counted from 0 by ascending weight.
+fn weight(q: u8, n: usize) -> usize
+    requires { ⌜ IsCurve q × (n < 2 ^ 63) ⌝ }
+    ensures { λ r. ⌜ WeightOfTerm q n r ⌝ }
+{
+    let curve = Curve::at(q);
+    if curve.genus <= n {
+        return n + curve.genus;
+    }
+    low_weight(q, n)
+}
+
+// The entry of term n, x^i·y^j, in a grid: q·i + j.
+pub fn entry(q: u8, n: usize) -> usize
+    requires { ⌜ IsCurve q × (n < 2 ^ 63) ⌝ }
+    ensures { λ r. ⌜ ((m : ℕ) → n < size q m → r ≡ getD (entriesOf q m) n 0) ⌝ }
+{
+    let curve = Curve::at(q);
+    let w = weight(q, n);
+    let d = divide(q, w);
+    w - curve.weight_y * d.rest + d.rest
+}
+
+// Writes the entries of the terms of the order m, by ascending weight.
+pub fn entries(q: u8, m: usize, list: &mut [u16])
+    requires { ⌜ IsCurve q × (m < 512) × (size q m ≤ length (now list)) ⌝ }
+    ensures { λ _. ⌜ now (list .exit) ≡ writes (now (list .entry)) (size q m) (λ n. getD (entriesOf q m) n 0) ⌝ }
+{
+    let k = size(q, m);
+    let mut n = 0;
+    while n < k {
+        list[n] = entry(q, n) as u16;
+        n += 1;
+    }
 }

@@ -35,7 +35,7 @@ at-requires : tie.Need-at-requires
 at-requires c κs = ordered c .0
 
 size-requires : tie.Need-size-requires
-size-requires c κs = let o = ordered (c .before) in (o .0, omega (arith, o .1, sizes _ (o .0) .points))
+size-requires c κs = ordered (c .before) .0
 
 slices-requires : tie.Need-slices-requires
 slices-requires c κs = rw (c .before .before .at .ensures) (omega (arith, sizes _ (ordered (c .before .before .before) .0) .points))

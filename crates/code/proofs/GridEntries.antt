@@ -154,7 +154,7 @@ module _ (q : ℕ) (pos : 0 < q) (n m : ℕ) where
 abbrev pub Split : ℕ → ℕ → ℕ → ℕ → Type 0
 Split q w i j = (i ≡ w / q) × (j ≡ w % q)
 
-split-sum : (q w i j : ℕ) → Split q w i j → w ≡ q * i + j
+pub split-sum : (q w i j : ℕ) → Split q w i j → w ≡ q * i + j
 split-sum q w i j d = omega (arith, div-add-mod w q, ap (λ (x : ℕ). q * x) (d .0), d .1)
 
 -- y^j alone weighs no more than the term, and the entry is what the weight of x^i and j add up to

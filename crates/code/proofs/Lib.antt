@@ -4,6 +4,7 @@ pub mod GridEntries
 pub mod Order
 pub mod GridLaw
 pub mod Checks
+pub mod Highest
 pub mod Columns
 pub mod Hermitian
 pub mod Coefficients

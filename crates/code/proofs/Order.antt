@@ -6,14 +6,18 @@ use mathlib.Core.Logic.{_⊎_, inl, inr}
 use mathlib.Core.Path.{_≡_, refl, sym, ap, _∙_}
 use Prim.Native.Nat.{ℕ, zero, suc, _+_, _-_, _*_, _%_, _≤_, _<_}
 use native.Mathlib.Decide.{decLt, ℕ-discrete}
+use native.Mathlib.Nat.{mod-lt, mul-le-mul-left, add-mul}
 use native.Mathlib.Numerals.{add-one}
 use native.Mathlib.Omega.{arith}
-use borrow.Author.Tests.{le-leb, lt-leb, eq-eqb, eqb-true}
+use borrow.Author.Tests.{le-leb, lt-leb, eq-eqb, ne-eqb, eqb-true}
 use lib.Dec.{leb, eqb}
 use lib.ListN.{length, getD}
 use Rattle.code.specs.Grid.{weightOf, scatter, gather, orderAtMost}
+use Rattle.poly.specs.Ranges.{part}
 use Rattle.poly.proofs.Bools.{true-or-false}
-use Rattle.code.proofs.GridEntries.{scatter-above, scatter-gather}
+use Rattle.poly.proofs.Parts.{part-at}
+use Rattle.code.specs.Highest.{Highest}
+use Rattle.code.proofs.GridEntries.{Split, split-sum, scatter-above, scatter-gather}
 
 module _ (q m : ℕ) (grid : List ℕ) where
   abbrev Within : ℕ → Type 0
@@ -71,15 +75,49 @@ pub within-message : (q : ℕ) → 0 < q → (n m : ℕ) (grid : List ℕ) → l
     → scatter q n m (gather q m grid) ≡ grid
 within-message q pos n m grid h t = scatter-gather q pos n m grid h (of-within q m grid n t)
 
--- a turn of the loop that tests: j is the remainder of e by q, as the code has it
-module _ (q m e j : ℕ) (grid : List ℕ) (d : j ≡ e % q) (h : orderAtMost q m e grid ≡ true) where
-  pub within-turn : (m < e + q * j → getD grid e 0 ≡ 0) → orderAtMost q m (e + 1) grid ≡ true
+-- ---- the loop that tests
+
+module _ (q m : ℕ) (grid : List ℕ) where
+  -- what it may begin with: entries whose weight is surely no higher than m
+  pub within-start : 0 < q → (e : ℕ) → e + q * q ≤ m → orderAtMost q m e grid ≡ true
+  within-start pos e h =
+      within-of q m grid e
+      (λ i l w. let j : i % q ≤ q = omega (arith, mod-lt i pos) in absurd (omega (arith, mul-le-mul-left q j)))
+
+  pub within-less : (e n : ℕ) → n ≤ e → orderAtMost q m e grid ≡ true → orderAtMost q m n grid ≡ true
+  within-less e n l h = within-of q m grid n (λ i k. of-within q m grid e h i (omega arith))
+
+  -- what it may end with: entries whose weight is surely above m
+  pub within-rest : (e high : ℕ) → orderAtMost q m e grid ≡ true → m < e → e ≤ length grid
+      → Highest (part grid e (length grid)) (length grid - e) high → eqb high 0 ≡ orderAtMost q m (length grid) grid
+  within-rest e high h l k top =
+      elim (ℕ-discrete high 0) [
+        | yes z ↦ eq-eqb high 0 z ∙ sym (within-of q m grid (length grid) (λ i a w. elim (decLt i e) [
+          | yes a′ ↦ of-within q m grid e h i a′ w
+          | no d ↦
+              let b : i - e < length grid - e = omega arith in
+              let is : e + (i - e) ≡ i = omega arith in
+              ap (λ (t : ℕ). getD grid t 0) (sym is) ∙ sym (part-at grid e (length grid) (i - e) (omega arith))
+              ∙ omega (arith, top .bound (i - e) b, z)
+        ]))
+        | no n ↦
+            let w = top .one n in
+            let v = part-at grid e (length grid) (w .0) (omega (arith, w .1)) in
+            ne-eqb high 0 n ∙ sym (not-within q m grid (length grid) (e + w .0) (omega (arith, w .1)) (omega arith) (λ z. n (omega (arith, w .2, v, z))))
+      ]
+
+-- a turn: i and j are e divided by q, with its remainder, as the code has them
+module _ (q m e i j : ℕ) (grid : List ℕ) (d : Split q e i j) (h : orderAtMost q m e grid ≡ true) where
+  weight-is : q * i + (q + 1) * j ≡ weightOf q e
+  weight-is = omega (arith, split-sum q e i j d, add-mul q 1 j, ap (λ (x : ℕ). q * x) (d .1))
+
+  pub within-turn : (m < q * i + (q + 1) * j → getD grid e 0 ≡ 0) → orderAtMost q m (e + 1) grid ≡ true
   within-turn z =
       rw (add-one e)
       (elim (decLt m (weightOf q e)) [
-        | yes l ↦ within-none q m grid e h l (z (rw d l))
+        | yes l ↦ within-none q m grid e h l (z (rw weight-is l))
         | no n ↦ within-low q m grid e h (omega arith)
       ])
 
-  pub within-stop : (n : ℕ) → e < n → m < e + q * j → (getD grid e 0 ≡ 0 → ⊥) → orderAtMost q m n grid ≡ false
-  within-stop n l w z = not-within q m grid n e l (rw (← d) w) z
+  pub within-stop : (n : ℕ) → e < n → m < q * i + (q + 1) * j → (getD grid e 0 ≡ 0 → ⊥) → orderAtMost q m n grid ≡ false
+  within-stop n l w z = not-within q m grid n e l (omega (arith, weight-is)) z

@@ -15,3 +15,4 @@ pub mod Encodable
 pub mod Rows
 pub mod Recovering
 pub mod Readable
+pub mod Highest

@@ -1,9 +1,11 @@
 // The checks 1 to 5 that the entries share.
 ghost use mathlib.Core.Path.{_≡_};
 ghost use Prim.Native.Nat.{_≤_};
+ghost use lib.ListN.{length};
 ghost use Rattle.field.specs.declared.outcome.Outcome.the-variants.{Done};
 ghost use Rattle.field.specs.Values.{badValue, firstBad};
 ghost use Rattle.code.specs.Checks.{orderChecks, sliceChecks, callChecks};
+ghost use Rattle.code.specs.Highest.{Highest};
 use crate::term;
 use field::Curve;
 use field::Named;
@@ -34,10 +36,28 @@ fn is_bad(gaps: bool, size: u8, x: u8) -> bool
     true
 }
 
+// The highest value, or 0 where there are none. The loop has no way out, so that it becomes vector code.
+pub fn highest(values: &[u8]) -> u8
+    ensures { λ r. ⌜ Highest (now (values .entry)) (length (now (values .entry))) r ⌝ }
+{
+    let mut high = 0u8;
+    let mut i = 0;
+    while i < values.len() {
+        if high < values[i] {
+            high = values[i];
+        }
+        i += 1;
+    }
+    high
+}
+
 // The lowest index of a value that is no symbol, nor 255 where gaps are allowed; the length where there is none.
 pub fn first_bad(gaps: bool, size: u8, values: &[u8]) -> usize
     ensures { λ r. ⌜ r ≡ firstBad (badValue gaps size) (now (values .entry)) ⌝ }
 {
+    if highest(values) < size {
+        return values.len();
+    }
     let mut i = 0;
     while i < values.len() {
         if is_bad(gaps, size, values[i]) {

@@ -6,7 +6,9 @@ ghost use Rattle.field.specs.Curve.{IsCurve};
 ghost use Rattle.poly.specs.Ranges.{writes};
 ghost use Rattle.code.specs.Terms.{size};
 ghost use Rattle.code.specs.Grid.{listed, scatter, gather, orderAtMost};
+use crate::check;
 use crate::term;
+use field::Curve;
 
 // Lays a message out in a grid of zeros.
 pub fn scatter(q: u8, m: usize, message: &[u8], grid: &mut [u8])
@@ -50,16 +52,20 @@ pub fn gather_listed(entries: &[u16], grid: &[u8], out: &mut [u8])
     }
 }
 
-// Whether a grid has no coefficient of a weight above m.
+// Whether a grid has no coefficient of a weight above m. An entry's weight is at least its number, and less than q·q more.
 pub fn order_at_most(q: u8, m: usize, grid: &[u8]) -> bool
     requires { ⌜ IsCurve q × (length (now grid) ≤ 512) ⌝ }
     ensures { λ r. ⌜ r ≡ orderAtMost q m (length (now (grid .entry))) (now (grid .entry)) ⌝ }
 {
-    let width = q as usize;
-    let mut e = 0;
+    let curve = Curve::at(q);
+    let more = curve.symbols as usize;
+    let mut e = if more <= m { m - more } else { 0 };
     while e < grid.len() {
+        if m < e {
+            return check::highest(&grid[e..]) == 0;
+        }
         let d = term::divide(q, e);
-        if m < e + width * d.rest {
+        if m < curve.weight_x * d.whole + curve.weight_y * d.rest {
             if grid[e] != 0 {
                 return false;
             }

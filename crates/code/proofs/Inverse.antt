@@ -1,8 +1,9 @@
--- Encoding and unencoding are inverse to each other.
+-- Encoding and unencoding are inverse to each other, and unencoding refuses exactly what is no message's word.
 -- Assumes nothing.
 use mathlib.Core.Bool.{false}
-use mathlib.Core.List.{List, [], _∷_, List·Memᴰ as Mem, List·Memᴰ·head as head}
-use mathlib.Core.Path.{_≡_, refl, sym, ap, _∙_}
+use mathlib.Core.List.{List, [], _∷_, List·Memᴰ as Mem, List·Memᴰ·head as head, List·Memᴰ·not-nil as not-nil}
+use mathlib.Core.Logic.{_↔_}
+use mathlib.Core.Path.{_≡_, refl, sym, ap, _∙_, subst}
 use Prim.Native.Nat.{ℕ, _*_, _<_}
 use native.Mathlib.Omega.{arith}
 use lib.ListN.{length, getD}
@@ -12,6 +13,7 @@ use Rattle.field.specs.Outcomes.{number}
 use Rattle.field.specs.declared.outcome.Outcome.the-variants.{Done, NoMessage}
 use Rattle.field.proofs.Curves.{sizes}
 use Rattle.poly.specs.Messages.{Vector}
+use Rattle.poly.specs.Sets.{ListOf}
 use Rattle.code.specs.Points.{columnsOf}
 use Rattle.code.specs.Terms.{size}
 use Rattle.code.specs.Word.{wordOf}
@@ -33,6 +35,12 @@ use Rattle.code.proofs.WordGrids.{message-only, the-one}
 found : (l : List (List ℕ)) (slice v : List ℕ) → theMessage l slice ≡ answered Done v → Mem v l
 found [] slice v e = let o : NoMessage ≡ Done = ap (λ (a : Answer). a .outcome) e in absurd (omega (arith, ap number o))
 found (u ∷ rest) slice v e = head (sym (ap (λ (a : Answer). a .slice) e))
+
+-- 9 is answered exactly where the list of the messages that have the word is empty
+nine : (P : List ℕ → Type 0) (l : List (List ℕ)) (slice : List ℕ) → ListOf P l
+    → (number (theMessage l slice .outcome) ≡ 9) ↔ ((v : List ℕ) → P v → ⊥)
+nine P [] slice h = (λ e v k. absurd (not-nil (h .whole v k)), λ none. refl)
+nine P (u ∷ rest) slice h = (λ e. absurd (omega (arith, e)), λ none. absurd (none u (h .sound u (head refl))))
 
 module _ (q m : ℕ) (curve : IsCurve q) (order : m < q * q * q) where
   encoded-word : (message word : List ℕ) → Accepted false (q * q) (size q m) message (q * q * q) (length word)
@@ -98,6 +106,20 @@ module _ (q m : ℕ) (curve : IsCurve q) (order : m < q * q * q) where
       ext-getD 0 (wordOf q (columnsOf q) m message) word (places message ∙ sym (h .long))
       (λ p l. let b : p < length word = omega (arith, places message, h .long) in
       k .fits .at p b (λ e. omega (arith, symbol-of-good (q * q) (getD word p 0) (h .good p b), sizes q curve .symbols)))
+
+  -- THE OTHER HALF: of n symbols and a slice of length k, 9 is answered exactly where no message has the word
+  pub unencode-refuses : (word slice : List ℕ) → Vector (q * q) (q * q * q) word → length slice ≡ size q m
+      → (number (unencoded q m word slice .outcome) ≡ 9)
+      ↔ ((message : List ℕ) → Vector (q * q) (size q m) message → wordOf q (columnsOf q) m message ≡ word → ⊥)
+  unencode-refuses word slice h e =
+      let W = wordOf q (columnsOf q) m in
+      let a : Accepted false (q * q) (q * q * q) word (size q m) (length slice) =
+        record { long = h .len; good = λ p l. good-symbol false (q * q) (getD word p 0) (h .small p (omega (arith, h .len))); fits = e } in
+      let is = ap (λ (x : Answer). number (x .outcome)) (unencoded-read word slice a) in
+      let (to, from) = nine (Fitting (q * q) (size q m) W word) (fitting (q * q) (size q m) W word) slice (fitting-list (q * q) (size q m) W word) in (
+        (λ n v k f. to (sym is ∙ n) v (subst (λ (w : List ℕ). Fitting (q * q) (size q m) W w v) f (has-own v k))),
+        (λ none. is ∙ from (λ v k. none v (k .vector) (has-word word slice a v k))),
+      )
 
 -- UNENCODING, THEN ENCODING: what is unencoded without a refusal is a message, and has the word
 pub encode-unencode : (q m : ℕ) (word slice message room : List ℕ) → unencoded q m word slice ≡ answered Done message → length room ≡ q * q * q

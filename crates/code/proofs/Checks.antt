@@ -85,7 +85,8 @@ pub slices-follow : (gaps : Bool) (Q takes : ℕ) (input : List ℕ) (writes roo
 unfolding sliceChecks
 slices-follow gaps Q takes input writes room =
     refuse-follows (not (eqb (length input) takes)) BadLength (λ rest. valueCheck gaps Q input (refuse (not (eqb room writes)) BadRoom rest)) refl
-    (refuse-follows (ltb (firstBad (badValue gaps Q) input) (length input)) (BadValue (firstBad (badValue gaps Q) input)) (refuse (not (eqb room writes)) BadRoom) refl
+    (refuse-follows (ltb (firstBad (badValue gaps Q) input) (length input)) (BadValue (firstBad (badValue gaps Q) input))
+    (refuse (not (eqb room writes)) BadRoom) refl
     (refuse-follows (not (eqb room writes)) BadRoom (λ rest. rest) refl none-follow))
 
 -- how the tests of the code decide 3, 4 and 5; w is what its search found

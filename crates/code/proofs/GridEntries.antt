@@ -217,7 +217,8 @@ module _ (q : ℕ) (pos : 0 < q) (m : ℕ) where
 
   -- ---- and gathered
 
-  pub gather-written : (grid message : List ℕ) → length message ≡ size q m → writes message (length message) (listed (entriesOf q m) grid) ≡ gather q m grid
+  pub gather-written : (grid message : List ℕ) → length message ≡ size q m
+      → writes message (length message) (listed (entriesOf q m) grid) ≡ gather q m grid
   gather-written grid message h =
       let f = listed (entriesOf q m) grid in
       ext-getD 0 (writes message (length message) f) (gather q m grid)

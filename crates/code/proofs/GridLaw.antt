@@ -81,13 +81,15 @@ module _ (q : ℕ) (pos : 0 < q) (x y : ℕ) where
   -- c columns of powers of x; the grid has room for them
   pub grid-law : (c n m : ℕ) (message : List ℕ) → m < q * c → q * c ≤ n
       → valueAt q m message x y
-      ≡ sum c (λ i. sum q (λ j. fieldOf q .times (fieldOf q .times (power (fieldOf q) x i) (power (fieldOf q) y j)) (getD (scatter q n m message) (q * i + j) 0)))
+      ≡ sum c (λ i. sum q (λ j. fieldOf q .times (fieldOf q .times (power (fieldOf q) x i) (power (fieldOf q) y j))
+      (getD (scatter q n m message) (q * i + j) 0)))
   unfolding valueAt
   grid-law c n m message l fits =
       same-below (q * c) n message fits (suc m) l
       ∙ sum-blocks q c (λ e. fieldOf q .times (at-entry e) (getD (scatter q n m message) e 0))
       ∙ sum-cong c (λ i. sum q (λ j. fieldOf q .times (at-entry (q * i + j)) (getD (scatter q n m message) (q * i + j) 0)))
-      (λ i. sum q (λ j. fieldOf q .times (fieldOf q .times (power (fieldOf q) x i) (power (fieldOf q) y j)) (getD (scatter q n m message) (q * i + j) 0)))
+      (λ i. sum q (λ j. fieldOf q .times (fieldOf q .times (power (fieldOf q) x i) (power (fieldOf q) y j))
+      (getD (scatter q n m message) (q * i + j) 0)))
       (λ i _. sum-cong q (λ j. fieldOf q .times (at-entry (q * i + j)) (getD (scatter q n m message) (q * i + j) 0))
       (λ j. fieldOf q .times (fieldOf q .times (power (fieldOf q) x i) (power (fieldOf q) y j)) (getD (scatter q n m message) (q * i + j) 0))
       (λ j h. rw (quotient q pos i j h, remainder q pos i j h)))
@@ -102,7 +104,8 @@ two-stages q pos c n m message x y l fits =
     ∙ sum-cong q (λ j. sum c (λ i. fieldOf q .times (fieldOf q .times (power (fieldOf q) x i) (power (fieldOf q) y j)) (g i j)))
     (λ j. fieldOf q .times (sum c (λ i. fieldOf q .times (g i j) (power (fieldOf q) x i))) (power (fieldOf q) y j))
     (λ j _. sum-cong c (λ i. fieldOf q .times (fieldOf q .times (power (fieldOf q) x i) (power (fieldOf q) y j)) (g i j))
-    (λ i. fieldOf q .times (power (fieldOf q) y j) (fieldOf q .times (g i j) (power (fieldOf q) x i))) (λ i _. turn (power (fieldOf q) x i) (power (fieldOf q) y j) (g i j))
+    (λ i. fieldOf q .times (power (fieldOf q) y j) (fieldOf q .times (g i j) (power (fieldOf q) x i)))
+    (λ i _. turn (power (fieldOf q) x i) (power (fieldOf q) y j) (g i j))
     ∙ sum-scale (fieldOf q) c (power (fieldOf q) y j) (λ i. fieldOf q .times (g i j) (power (fieldOf q) x i))
     ∙ fieldOf q .times-comm (power (fieldOf q) y j) (sum c (λ i. fieldOf q .times (g i j) (power (fieldOf q) x i))))
   where
@@ -111,4 +114,5 @@ two-stages q pos c n m message x y l fits =
 
     turn : (a b v : ℕ) → fieldOf q .times (fieldOf q .times a b) v ≡ fieldOf q .times b (fieldOf q .times v a)
     turn a b v =
-        ap (λ (t : ℕ). fieldOf q .times t v) (fieldOf q .times-comm a b) ∙ fieldOf q .times-assoc b a v ∙ ap (fieldOf q .times b) (fieldOf q .times-comm a v)
+        ap (λ (t : ℕ). fieldOf q .times t v) (fieldOf q .times-comm a b) ∙ fieldOf q .times-assoc b a v
+        ∙ ap (fieldOf q .times b) (fieldOf q .times-comm a v)

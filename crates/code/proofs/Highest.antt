@@ -44,5 +44,6 @@ pub symbols-good : (gaps : Bool) (size : ℕ) (values : List ℕ) (high : ℕ) �
     → length values ≡ firstBad (badValue gaps size) values
 symbols-good gaps size values high h l =
     bad-none (badValue gaps size) values (length values)
-    (along (badValue gaps size) values (λ i k. good-symbol gaps size (getD values i 0) (omega (arith, h .bound i k))) (length values) (le-refl (length values)))
+    (along (badValue gaps size) values (λ i k. good-symbol gaps size (getD values i 0) (omega (arith, h .bound i k))) (length values)
+    (le-refl (length values)))
     (le-refl (length values))

@@ -51,14 +51,16 @@ module _ (q m : ℕ) (curve : IsCurve q) (order : m < q * q * q) where
       (order-passed q m (sliceChecks false (q * q) (size q m) message (q * q * q) (length word) Done) curve order
       ∙ slices-accepted false (q * q) (size q m) message (q * q * q) (length word) Done h)
 
-  unencoded-read : (word slice : List ℕ) → Accepted false (q * q) (q * q * q) word (size q m) (length slice) → unencoded q m word slice ≡ readOver q (columnsOf q) m word slice
+  unencoded-read : (word slice : List ℕ) → Accepted false (q * q) (q * q * q) word (size q m) (length slice)
+      → unencoded q m word slice ≡ readOver q (columnsOf q) m word slice
   unfolding unencoded
   unencoded-read word slice h =
       not-refused (unencodeChecks q m word slice) slice (readOver q (columnsOf q) m word slice)
       (order-passed q m (sliceChecks false (q * q) (q * q * q) word (size q m) (length slice) Done) curve order
       ∙ slices-accepted false (q * q) (q * q * q) word (size q m) (length slice) Done h)
 
-  message-accepted : (message word : List ℕ) → Vector (q * q) (size q m) message → length word ≡ q * q * q → Accepted false (q * q) (size q m) message (q * q * q) (length word)
+  message-accepted : (message word : List ℕ) → Vector (q * q) (size q m) message → length word ≡ q * q * q
+      → Accepted false (q * q) (size q m) message (q * q * q) (length word)
   message-accepted message word h e =
       record { long = h .len; good = λ i l. good-symbol false (q * q) (getD message i 0) (h .small i (omega (arith, h .len))); fits = e }
 
@@ -66,7 +68,8 @@ module _ (q m : ℕ) (curve : IsCurve q) (order : m < q * q * q) where
   places : (message : List ℕ) → length (wordOf q (columnsOf q) m message) ≡ q * q * q
   places message = word-length q m curve message (columnsOf q) (full-columns q curve .small) ∙ full-places q curve
 
-  word-accepted : (message slice : List ℕ) → length slice ≡ size q m → Accepted false (q * q) (q * q * q) (wordOf q (columnsOf q) m message) (size q m) (length slice)
+  word-accepted : (message slice : List ℕ) → length slice ≡ size q m → Accepted false (q * q) (q * q * q) (wordOf q (columnsOf q) m message)
+      (size q m) (length slice)
   word-accepted message slice e =
       record {
         long = places message;
@@ -114,9 +117,10 @@ module _ (q m : ℕ) (curve : IsCurve q) (order : m < q * q * q) where
   unencode-refuses word slice h e =
       let W = wordOf q (columnsOf q) m in
       let a : Accepted false (q * q) (q * q * q) word (size q m) (length slice) =
-        record { long = h .len; good = λ p l. good-symbol false (q * q) (getD word p 0) (h .small p (omega (arith, h .len))); fits = e } in
+      record { long = h .len; good = λ p l. good-symbol false (q * q) (getD word p 0) (h .small p (omega (arith, h .len))); fits = e } in
       let is = ap (λ (x : Answer). number (x .outcome)) (unencoded-read word slice a) in
-      let (to, from) = nine (Fitting (q * q) (size q m) W word) (fitting (q * q) (size q m) W word) slice (fitting-list (q * q) (size q m) W word) in (
+      let l = fitting-list (q * q) (size q m) W word in
+      let (to, from) = nine (Fitting (q * q) (size q m) W word) (fitting (q * q) (size q m) W word) slice l in (
         (λ n v k f. to (sym is ∙ n) v (subst (λ (w : List ℕ). Fitting (q * q) (size q m) W w v) f (has-own v k))),
         (λ none. is ∙ from (λ v k. none v (k .vector) (has-word word slice a v k))),
       )
@@ -129,7 +133,8 @@ encode-unencode q m word slice message room e long =
     let past = past-checks q m false (q * q) (q * q * q) word (size q m) (length slice) slice message (readOver q (columnsOf q) m word slice) e in
     let (curve, order, d) = order-rest q m (sliceChecks false (q * q) (q * q * q) word (size q m) (length slice) Done) (past .0) in
     let h = slices-done false (q * q) (q * q * q) word (size q m) (length slice) d in
-    let k = fitting-list (q * q) (size q m) (wordOf q (columnsOf q) m) word .sound message (found (fitting (q * q) (size q m) (wordOf q (columnsOf q) m) word) slice message (past .1)) in (
+    let k = fitting-list (q * q) (size q m) (wordOf q (columnsOf q) m) word .sound message
+    (found (fitting (q * q) (size q m) (wordOf q (columnsOf q) m) word) slice message (past .1)) in (
       k .vector,
       encoded-word q m curve order message room (message-accepted q m curve order message room (k .vector) long)
           ∙ ap (answered Done) (has-word q m curve order word slice h message k),

@@ -103,7 +103,8 @@ module _ (q m : ℕ) (grid : List ℕ) where
         | no n ↦
             let w = top .one n in
             let v = part-at grid e (length grid) (w .0) (omega (arith, w .1)) in
-            ne-eqb high 0 n ∙ sym (not-within q m grid (length grid) (e + w .0) (omega (arith, w .1)) (omega arith) (λ z. n (omega (arith, w .2, v, z))))
+            ne-eqb high 0 n ∙ sym (not-within q m grid (length grid) (e + w .0) (omega (arith, w .1)) (omega arith)
+            (λ z. n (omega (arith, w .2, v, z))))
       ]
 
 -- a turn: i and j are e divided by q, with its remainder, as the code has them

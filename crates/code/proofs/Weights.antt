@@ -5,7 +5,8 @@ use mathlib.Core.List.{List}
 use mathlib.Core.Path.{_≡_, refl, sym, ap, ap₂, _∙_}
 use Prim.Native.Nat.{ℕ, zero, suc, _+_, _-_, _*_, _/_, _%_, _≤_, _<_}
 use native.Mathlib.Decide.{le-ind, decLt}
-use native.Mathlib.Nat.{div-add-mod, mod-lt, mul-sub, mul-add, suc-mul, mul-le-mul-left, mul-add-div, mul-add-mod-self-left, mod-eq-of-lt, div-eq-of-lt, add-zero, le-div-iff-mul-le, mul-comm, mul-suc, mul-zero, add-suc, add-mul, mul-le-mul}
+use native.Mathlib.Nat.{div-add-mod, mod-lt, mul-sub, mul-add, suc-mul, mul-le-mul-left, mul-add-div, mul-add-mod-self-left, mod-eq-of-lt}
+use native.Mathlib.Nat.{div-eq-of-lt, add-zero, le-div-iff-mul-le, mul-comm, mul-suc, mul-zero, add-suc, add-mul, mul-le-mul}
 use native.Mathlib.Numerals.{add-one}
 use native.Mathlib.Omega.{arith}
 use borrow.Author.Tests.{le-leb, lt-leb, leb-true}
@@ -119,7 +120,8 @@ module _ (q : ℕ) (pos : 0 < q) where
   row-gaps : (a : ℕ) → suc a ≤ q → (b : ℕ) → suc a ≤ b → b ≤ q → rank q (q * a + b) ≡ rank q (q * a) + suc a
   row-gaps a k b l =
       le-ind (λ (b : ℕ). b ≤ q → rank q (q * a + b) ≡ rank q (q * a) + suc a) (λ h. row-terms a (suc a) (omega arith) k)
-      (λ b g ih h. ap (rank q) (add-suc (q * a) b) ∙ place-false (isTerm q) (q * a + b) (row-gap a b (omega arith) (omega arith)) ∙ ih (omega arith)) b l
+      (λ b g ih h. ap (rank q) (add-suc (q * a) b) ∙ place-false (isTerm q) (q * a + b) (row-gap a b (omega arith) (omega arith))
+      ∙ ih (omega arith)) b l
 
   -- so the first a rows have 1 + 2 + .. + a weights
   rows-below : (a : ℕ) → a ≤ q → 2 * rank q (q * a) ≡ a * suc a

@@ -60,12 +60,14 @@ vector-gather q m b grid h =
 
 module _ (q : ℕ) (columns word : List ℕ) (w : WordOver q columns word) where
   -- interpolation in y, then in x, leaves it
-  pub grid-of : (rows grid : List ℕ) → InterpolatedInY q columns word rows → length grid ≡ length word → InterpolatedInX q columns rows grid → GridOf q columns word grid
+  pub grid-of : (rows grid : List ℕ) → InterpolatedInY q columns word rows → length grid ≡ length word → InterpolatedInX q columns rows grid
+      → GridOf q columns word grid
   grid-of rows grid first long second =
       record {
         long = long ∙ w .long;
         symbols = second .symbols;
-        is = λ t s a b. value-cong (fieldOf q) q (at-column (fieldOf q) q columns grid t) (strand (length columns) rows t) (getD (ysOf q (getD columns t 0)) s 0)
+        is = λ t s a b. value-cong (fieldOf q) q (at-column (fieldOf q) q columns grid t) (strand (length columns) rows t)
+            (getD (ysOf q (getD columns t 0)) s 0)
             (λ j k. second .is j t k a) ∙ first .is t s a b;
       }
 
@@ -83,8 +85,10 @@ module _ (q : ℕ) (columns word : List ℕ) (w : WordOver q columns word) where
           let long = length-ys q (w .over .curve) x (w .over .small t l) in
           value-unique (fieldOf q) (ysOf q x) q (at-column (fieldOf q) q columns a t) (at-column (fieldOf q) q columns b t)
           (ys-below q (w .over .curve) x (w .over .small t l)) (nodup-ys q x)
-          (λ j k. value-lt (fieldOf q) (length columns) (strand q a j) x) (λ j k. value-lt (fieldOf q) (length columns) (strand q b j) x) (omega arith)
-          (each-mem (λ (y : ℕ). value (fieldOf q) q (at-column (fieldOf q) q columns a t) y ≡ value (fieldOf q) q (at-column (fieldOf q) q columns b t) y) 0 (ysOf q x)
+          (λ j k. value-lt (fieldOf q) (length columns) (strand q a j) x) (λ j k. value-lt (fieldOf q) (length columns) (strand q b j) x)
+          (omega arith)
+          (each-mem (λ (y : ℕ). value (fieldOf q) q (at-column (fieldOf q) q columns a t) y
+          ≡ value (fieldOf q) q (at-column (fieldOf q) q columns b t) y) 0 (ysOf q x)
           (λ s k. ha .is t s l (omega arith) ∙ sym (hb .is t s l (omega arith))))
 
   module _ (m : ℕ) (order : m < q * length columns) where
@@ -99,30 +103,36 @@ module _ (q : ℕ) (columns word : List ℕ) (w : WordOver q columns word) where
         ∙ two-stages q pos (length columns) (q * length columns) m v (getD columns t 0) (getD (ysOf q (getD columns t 0)) s 0) order (omega arith)
 
     -- the grid of a message that has the word
-    pub message-grid : (v : List ℕ) → Vector (q * q) (size q m) v → Fits (wordOf q columns m) word v → GridOf q columns word (scatter q (q * length columns) m v)
+    pub message-grid : (v : List ℕ) → Vector (q * q) (size q m) v → Fits (wordOf q columns m) word v
+        → GridOf q columns word (scatter q (q * length columns) m v)
     message-grid v hv h =
         record {
           long = length-scatter q (q * length columns) v (suc m);
           symbols = symbols-scatter q (q * length columns) v below (suc m);
-          is = λ t s a b. sym (laid-out v t s a b) ∙ h .at (q * t + s) (omega (arith, w .long, place-lt q t s (length columns) b a)) (whole (q * t + s));
+          is = λ t s a b. sym (laid-out v t s a b) ∙ h .at (q * t + s) (omega (arith, w .long, place-lt q t s (length columns) b a))
+              (whole (q * t + s));
         }
       where
         below : Below (fieldOf q .size) v
-        below = rw (sizes q (w .over .curve) .size) (vector-below (q * q) (size q m) v (omega (arith, sizes q (w .over .curve) .size, zero-lt (fieldOf q))) hv)
+        below = rw (sizes q (w .over .curve) .size) (vector-below (q * q) (size q m) v
+            (omega (arith, sizes q (w .over .curve) .size, zero-lt (fieldOf q))) hv)
 
         whole : (p : ℕ) → getD word p 0 ≡ 255 → ⊥
         whole p e = omega (arith, w .symbols p, sizes q (w .over .curve) .size, sizes q (w .over .curve) .symbols)
 
     -- two messages that have the word are the same
-    pub message-only : (u v : List ℕ) → Fitting (q * q) (size q m) (wordOf q columns m) word u → Fitting (q * q) (size q m) (wordOf q columns m) word v → u ≡ v
+    pub message-only : (u v : List ℕ) → Fitting (q * q) (size q m) (wordOf q columns m) word u
+        → Fitting (q * q) (size q m) (wordOf q columns m) word v → u ≡ v
     message-only u v hu hv =
         sym (gather-scatter q pos (q * length columns) m u (hu .vector .len) order)
         ∙ ap (gather q m)
-        (grid-only (scatter q (q * length columns) m u) (scatter q (q * length columns) m v) (message-grid u (hu .vector) (hu .fits)) (message-grid v (hv .vector) (hv .fits)))
+        (grid-only (scatter q (q * length columns) m u) (scatter q (q * length columns) m v) (message-grid u (hu .vector) (hu .fits))
+        (message-grid v (hv .vector) (hv .fits)))
         ∙ gather-scatter q pos (q * length columns) m v (hv .vector .len) order
 
     -- so recovery says of a whole word what unencoding says
-    told-read : (slice : List ℕ) (l : List (List ℕ)) → ListOf (Fitting (q * q) (size q m) (wordOf q columns m) word) l → told (read (q * q) l) slice ≡ theMessage l slice
+    told-read : (slice : List ℕ) (l : List (List ℕ)) → ListOf (Fitting (q * q) (size q m) (wordOf q columns m) word) l
+        → told (read (q * q) l) slice ≡ theMessage l slice
     unfolding read told
     told-read slice [] h = refl
     told-read slice (u ∷ []) h = refl
@@ -174,7 +184,8 @@ module _ (Fit : List ℕ → Type 0) (slice : List ℕ) where
   pub the-none : (l : List (List ℕ)) → ListOf Fit l → ((u : List ℕ) → Fit u → ⊥) → theMessage l slice ≡ answered NoMessage slice
   the-none l h none = ap (λ (l : List (List ℕ)). theMessage l slice) (none-listed Fit l h none)
 
-module _ (q : ℕ) (columns word : List ℕ) (w : WordOver q columns word) (m : ℕ) (order : m < q * length columns) (grid : List ℕ) (g : GridOf q columns word grid)
+module _ (q : ℕ) (columns word : List ℕ) (w : WordOver q columns word) (m : ℕ) (order : m < q * length columns) (grid : List ℕ)
+    (g : GridOf q columns word grid)
     (slice : List ℕ) where
   pub read-within : orderAtMost q m (length grid) grid ≡ true → readOver q columns m word slice ≡ answered Done (gather q m grid)
   read-within e =
@@ -186,4 +197,5 @@ module _ (q : ℕ) (columns word : List ℕ) (w : WordOver q columns word) (m : 
   read-beyond e =
       the-none (Fitting (q * q) (size q m) (wordOf q columns m) word) slice (fitting (q * q) (size q m) (wordOf q columns m) word)
       (fitting-list (q * q) (size q m) (wordOf q columns m) word)
-      (λ v h. let z : _≡_ {A = Bool} true false = sym (only-within q columns word w m order grid g v h) ∙ e in let o : _≡_ {A = ℕ} 0 1 = cc in omega arith)
+      (λ v h. let z : _≡_ {A = Bool} true false = sym (only-within q columns word w m order grid g v h) ∙ e in let o : _≡_ {A = ℕ} 0 1 = cc in
+      omega arith)

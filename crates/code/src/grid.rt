@@ -42,7 +42,8 @@ pub fn gather(q: u8, m: usize, grid: &[u8], message: &mut [u8])
 pub fn gather_listed(entries: &[u16], grid: &[u8], out: &mut [u8])
     requires { ⌜ length (now entries) ≤ length (now out) ⌝ }
     requires { ⌜ ((n : ℕ) → n < length (now entries) → getD (now entries) n 0 < length (now grid)) ⌝ }
-    ensures { λ _. ⌜ now (out .exit) ≡ writes (now (out .entry)) (length (now (entries .entry))) (listed (now (entries .entry)) (now (grid .entry))) ⌝ }
+    ensures { λ _. ⌜ now (out .exit) ≡ writes (now (out .entry)) (length (now (entries .entry)))
+        (listed (now (entries .entry)) (now (grid .entry))) ⌝ }
 {
     let mut n = 0;
     while n < entries.len() {

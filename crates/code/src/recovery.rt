@@ -266,7 +266,8 @@ fn recover_by_equations(
     message: &mut [u8],
 ) -> Outcome
     requires { ⌜ BrokenOver q (now columns) m (now word) × (k ≡ size q m) × (length (now message) ≡ size q m) × (size q m < 64) ⌝ }
-    ensures { λ r. ⌜ told (reading (fieldOf q .size) (size q m) (wordOf q (now (columns .entry)) m) (now (word .entry))) (now (message .entry)) ≡ answered r (now (message .exit)) ⌝ }
+    ensures { λ r. ⌜ told (reading (fieldOf q .size) (size q m) (wordOf q (now (columns .entry)) m) (now (word .entry))) (now (message .entry))
+        ≡ answered r (now (message .exit)) ⌝ }
 {
     let mut work = [0u8; 4096];
     let r = collect(q, columns, m, k, word, &mut work);
@@ -293,7 +294,8 @@ fn recover_over(
     message: &mut [u8],
 ) -> Outcome
     requires { ⌜ BrokenOver q (now columns) m (now word) × (k ≡ size q m) × (length (now message) ≡ size q m) × (size q m < 64) ⌝ }
-    ensures { λ r. ⌜ told (reading (fieldOf q .size) (size q m) (wordOf q (now (columns .entry)) m) (now (word .entry))) (now (message .entry)) ≡ answered r (now (message .exit)) ⌝ }
+    ensures { λ r. ⌜ told (reading (fieldOf q .size) (size q m) (wordOf q (now (columns .entry)) m) (now (word .entry))) (now (message .entry))
+        ≡ answered r (now (message .exit)) ⌝ }
 {
     let curve = Curve::at(q);
     if check::first_bad(false, curve.symbols, word) == word.len() {

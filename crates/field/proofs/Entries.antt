@@ -44,7 +44,8 @@ and-zero q a =
     (λ h. lt-leb (q * q) 0 (subst (λ (n : ℕ). 0 < n) (sizes q (curve-of-true q h) .size) (pow-pos (bitsOf q))))
   where
     go : (t b : Bool) → (t ≡ true → leb (q * q) 0 ≡ false)
-        → refuse (not t) BadCurve (refuse (ltb (cond (b && true) 0 (suc (cond (leb (q * q) 0 && true) 0 1))) 2) (BadValue (cond (b && true) 0 (suc (cond (leb (q * q) 0 && true) 0 1)))) Done)
+        → refuse (not t) BadCurve (refuse (ltb (cond (b && true) 0 (suc (cond (leb (q * q) 0 && true) 0 1))) 2)
+        (BadValue (cond (b && true) 0 (suc (cond (leb (q * q) 0 && true) 0 1)))) Done)
         ≡ refuse (not t) BadCurve (refuse (ltb (cond (b && true) 0 1) 1) (BadValue (cond (b && true) 0 1)) Done)
     go true true h = refl
     go true false h = rw (h refl)

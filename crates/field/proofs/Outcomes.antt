@@ -11,7 +11,8 @@ use types.Run.{OneOf, miss}
 use denote.Enum.Declared.{tagOf}
 use Rattle.field.specs.Outcomes.{number, second, Says, refuse}
 use Rattle.field.specs.declared.outcome.Outcome.{Outcome}
-use Rattle.field.specs.declared.outcome.Outcome.the-variants.{Done, BadCurve, BadOrder, BadLength, BadValue, BadRoom, BadPlace, BadSymbol, NoMessage, Several, InverseOfZero}
+use Rattle.field.specs.declared.outcome.Outcome.the-variants.{Done, BadCurve, BadOrder, BadLength, BadValue, BadRoom, BadPlace}
+use Rattle.field.specs.declared.outcome.Outcome.the-variants.{BadSymbol, NoMessage, Several, InverseOfZero}
 use Rattle.field.proofs.outcome.Outcome.{the-type}
 
 -- a check that comes out Done did not apply
@@ -23,7 +24,8 @@ passed false o r n e = (refl, e)
 outcomeOf : ℕ → ℕ → Outcome
 outcomeOf n s =
     cond (eqb n 0) Done (cond (eqb n 1) BadCurve (cond (eqb n 2) BadOrder (cond (eqb n 3) BadLength (cond (eqb n 4) (BadValue s)
-    (cond (eqb n 5) BadRoom (cond (eqb n 6) BadPlace (cond (eqb n 7) BadSymbol (cond (eqb n 9) NoMessage (cond (eqb n 10) (Several s) InverseOfZero)))))))))
+    (cond (eqb n 5) BadRoom (cond (eqb n 6) BadPlace (cond (eqb n 7) BadSymbol
+    (cond (eqb n 9) NoMessage (cond (eqb n 10) (Several s) InverseOfZero)))))))))
 
 outcome-of : (o : Outcome) → outcomeOf (number o) (second o) ≡ o
 unfolding outcomeOf
@@ -67,12 +69,14 @@ Follows row = (o rest : Outcome) → row Done ≡ o → ((o ≡ Done) × (row re
 pub none-follow : Follows (λ rest. rest)
 none-follow o rest e = inl (sym e, refl)
 
-pub refuse-follows : (t : Bool) (r : Outcome) (row : Outcome → Outcome) → eqb (number r) 0 ≡ false → Follows row → Follows (λ rest. refuse t r (row rest))
+pub refuse-follows : (t : Bool) (r : Outcome) (row : Outcome → Outcome) → eqb (number r) 0 ≡ false → Follows row
+    → Follows (λ rest. refuse t r (row rest))
 refuse-follows true r row n f o rest e = inr (ap (λ (x : Outcome). eqb (number x) 0) (sym e) ∙ n, e)
 refuse-follows false r row n f o rest e = f o rest e
 
 pub done-or-not : (o : Outcome) → o ≡ Done → eqb (number o) 0 ≡ false → ⊥
-done-or-not o e n = let f : _≡_ {A = Bool} true false = sym (ap (λ (x : Outcome). eqb (number x) 0) e) ∙ n in let z : _≡_ {A = ℕ} 0 1 = cc in omega arith
+done-or-not o e n = let f : _≡_ {A = Bool} true false = sym (ap (λ (x : Outcome). eqb (number x) 0) e) ∙ n in let z : _≡_ {A = ℕ} 0 1 = cc in
+    omega arith
 
 module _ (row : Outcome → Outcome) (f : Follows row) (o : Outcome) (e : o ≡ row Done) (rest : Outcome) where
   pub row-refused : OneOf refusals (tagOf the-type o) → o ≡ row rest

@@ -4,13 +4,15 @@
 -- Assumes nothing.
 use mathlib.Core.Path.{_≡_, refl, sym, ap, ap₂, _∙_}
 use Prim.Native.Nat.{ℕ, zero, suc, _+_, _*_, _/_, _%_, _^_, _≤_, _<_}
-use native.Mathlib.Nat.{zero-mul, one-mul, mul-one, add-comm, mul-assoc, pow-suc, pow-succ', mod-lt, mod-mod, mod-one, add-mul, mul-right-comm, add-mul-div-right, mul-add-mod-self-right, div-add-mod', zero-lt-suc, mod-eq-of-lt, div-eq-of-lt}
+use native.Mathlib.Nat.{zero-mul, one-mul, mul-one, add-comm, mul-assoc, pow-suc, pow-succ', mod-lt, mod-mod, mod-one, add-mul}
+use native.Mathlib.Nat.{mul-right-comm, add-mul-div-right, mul-add-mod-self-right, div-add-mod', zero-lt-suc, mod-eq-of-lt, div-eq-of-lt}
 use native.Mathlib.Omega.{arith}
 use lib.Arith.{mod-mul}
 use lib.Pow.{pow-pos, pow-mono, pow-lt}
 use Rattle.field.specs.Product.{timesZ, combine, times}
 use Rattle.field.specs.Plus.{plus}
-use Rattle.field.proofs.Plus.{low-bit, plus-lt, plus-mod, plus-div, plus-shifted, plus-half, plus-exchange, plus-double, plus-comm, plus-self, plus-zero, bit-plus, plus-bits}
+use Rattle.field.proofs.Plus.{low-bit, plus-lt, plus-mod, plus-div, plus-shifted, plus-half, plus-exchange, plus-double, plus-comm}
+use Rattle.field.proofs.Plus.{plus-self, plus-zero, bit-plus, plus-bits}
 
 -- ---- z times a number
 
@@ -155,7 +157,8 @@ module _ (e : ℕ) (two : 2 ≤ e) where
   left-linear b =
       record {
         sums = λ a c. ap (λ (x : ℕ). combine e e x b) (plus-mod a c e) ∙ combine-left e e (a % 2 ^ e) (c % 2 ^ e) b;
-        z = λ a. ap (λ (x : ℕ). combine e e x b) (mod-eq-of-lt (timesZ-lt a) ∙ sym (timesZ-mod e a)) ∙ sym (through e (timesZ e) (timesZ-linear e) e (a % 2 ^ e) b);
+        z = λ a. ap (λ (x : ℕ). combine e e x b) (mod-eq-of-lt (timesZ-lt a) ∙ sym (timesZ-mod e a))
+            ∙ sym (through e (timesZ e) (timesZ-linear e) e (a % 2 ^ e) b);
       }
 
   pub times-comm : (a b : ℕ) → times e a b ≡ times e b a

@@ -3,7 +3,8 @@ use mathlib.Core.Bool.{Bool, true, false}
 use mathlib.Core.Path.{_≡_}
 use Prim.Native.Nat.{ℕ, _+_, _*_}
 use Rattle.field.specs.declared.outcome.Outcome.{Outcome}
-use Rattle.field.specs.declared.outcome.Outcome.the-variants.{Done, BadCurve, BadOrder, BadLength, BadValue, BadRoom, BadPlace, BadSymbol, NoMessage, Several, InverseOfZero}
+use Rattle.field.specs.declared.outcome.Outcome.the-variants.{Done, BadCurve, BadOrder, BadLength, BadValue, BadRoom, BadPlace}
+use Rattle.field.specs.declared.outcome.Outcome.the-variants.{BadSymbol, NoMessage, Several, InverseOfZero}
 
 -- the refusal number, and 0 for "a call that isn't refused"; "Refusal 8 no longer occurs" (T-01)
 abbrev pub number : Outcome → ℕ

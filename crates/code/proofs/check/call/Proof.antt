@@ -20,7 +20,8 @@ use Rattle.code.proofs.check.call.Tie as tie
 
 -- past the checks 1 and 2
 ordered : (c : tie.After-enum-told) → let x = c .before .before .before .before .args in IsCurve (x .q) × (x .m < x .q * x .q * x .q)
-ordered c = order-done (c .before .before .before .before .args .q) (c .before .before .before .before .args .m) (sym (c .before .before .order .ensures) ∙ c .enum-told .given .1)
+ordered c = order-done (c .before .before .before .before .args .q) (c .before .before .before .before .args .m)
+    (sym (c .before .before .order .ensures) ∙ c .enum-told .given .1)
 
 order-requires : tie.Need-order-requires
 order-requires c κs = search needs
@@ -55,7 +56,8 @@ returns-2 c =
     call-past (x .gaps) (x .decodes) (x .q) (x .m) (now (x .input)) (x .room) _ _ _ (ordered (c .before .before .before .before))
     (sym (ap (λ (b : Bool). cond b (x .q * x .q * x .q) (size (x .q) (x .m))) d))
     (k ∙ sym (ap (λ (b : Bool). cond b (size (x .q) (x .m)) (x .q * x .q * x .q)) d))
-    (c .slices .ensures ∙ ap (λ (v : Curve). sliceChecks (x .gaps) (v .symbols) (v .points) (now (x .input)) (r .result) (x .room) Done) (c .before .before .before .at .ensures))
+    (c .slices .ensures ∙ ap (λ (v : Curve). sliceChecks (x .gaps) (v .symbols) (v .points) (now (x .input)) (r .result) (x .room) Done)
+    (c .before .before .before .at .ensures))
 
 returns-3 : tie.Need-returns-3
 returns-3 c =
@@ -66,7 +68,8 @@ returns-3 c =
     call-past (x .gaps) (x .decodes) (x .q) (x .m) (now (x .input)) (x .room) _ _ _ (ordered (c .before .before .before .before))
     (k ∙ sym (ap (λ (b : Bool). cond b (x .q * x .q * x .q) (size (x .q) (x .m))) d))
     (sym (ap (λ (b : Bool). cond b (size (x .q) (x .m)) (x .q * x .q * x .q)) d))
-    (c .slices2 .ensures ∙ ap (λ (v : Curve). sliceChecks (x .gaps) (v .symbols) (r .result) (now (x .input)) (v .points) (x .room) Done) (c .before .before .before .at .ensures))
+    (c .slices2 .ensures ∙ ap (λ (v : Curve). sliceChecks (x .gaps) (v .symbols) (r .result) (now (x .input)) (v .points) (x .room) Done)
+    (c .before .before .before .at .ensures))
 
 pub call-spec : {M : Type 1} → statement M
 call-spec =

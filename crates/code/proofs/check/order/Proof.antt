@@ -13,10 +13,13 @@ use Rattle.code.proofs.check.order.Statement.{statement}
 use Rattle.code.proofs.check.order.Tie as tie
 
 -- the curve that was found
-found : (c : tie.After-struct-known) → let x = c .before .before .before .before .before .args in IsCurve (x .q) × (c .before .before .curve .given .0 .0 ≡ curveOf (x .q))
-found c = named (c .before .before .before .before .before .args .q) _ (sym (c .before .before .before .before .of .ensures) ∙ c .before .before .curve .given .1)
+found : (c : tie.After-struct-known) → let x = c .before .before .before .before .before .args in
+    IsCurve (x .q) × (c .before .before .curve .given .0 .0 ≡ curveOf (x .q))
+found c = named (c .before .before .before .before .before .args .q) _
+    (sym (c .before .before .before .before .of .ensures) ∙ c .before .before .curve .given .1)
 
-points : (c : tie.After-struct-known) → let x = c .before .before .before .before .before .args in c .before .before .curve .given .0 .0 .points ≡ x .q * x .q * x .q
+points : (c : tie.After-struct-known) → let x = c .before .before .before .before .before .args in
+    c .before .before .curve .given .0 .0 .points ≡ x .q * x .q * x .q
 points c = ap (λ (v : Curve). v .points) (found c .1)
 
 of-requires : tie.Need-of-requires

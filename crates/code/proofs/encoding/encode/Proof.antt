@@ -27,11 +27,14 @@ use Rattle.code.proofs.encoding.encode.Tie as tie
 
 -- past the checks
 passed : (c : tie.After-enum-told) → let x = c .before .before .before .before .before .args in
-    IsCurve (x .q) × (x .m < x .q * x .q * x .q) × Accepted false (x .q * x .q) (size (x .q) (x .m)) (now (x .message)) (x .q * x .q * x .q) (length (now (x .word)))
-passed c = let x = c .before .before .before .before .before .args in call-done false false (x .q) (x .m) (now (x .message)) (length (now (x .word))) (sym (c .before .before .call .ensures) ∙ c .enum-told .given .1)
+    IsCurve (x .q) × (x .m < x .q * x .q * x .q) × Accepted false (x .q * x .q) (size (x .q) (x .m)) (now (x .message)) (x .q * x .q * x .q)
+    (length (now (x .word)))
+passed c = let x = c .before .before .before .before .before .args in call-done false false (x .q) (x .m) (now (x .message)) (length (now (x .word)))
+    (sym (c .before .before .call .ensures) ∙ c .enum-told .given .1)
 
 -- the columns that are lent
-columns-are : (c : tie.After-at) → let x = c .before .before .before .before .before .before .before .args in take (c .at .result .symbols) (c .before .columns .result) ≡ columnsOf (x .q)
+columns-are : (c : tie.After-at) → let x = c .before .before .before .before .before .before .before .args in
+    take (c .at .result .symbols) (c .before .columns .result) ≡ columnsOf (x .q)
 columns-are c =
     let q = c .before .before .before .before .before .before .before .args .q in
     ap (λ (v : Curve). take (v .symbols) (c .before .columns .result)) (c .at .ensures) ∙ ap (take (q * q)) (c .before .columns .ensures)
@@ -72,7 +75,8 @@ write-word-requires : tie.Need-write-word-requires
 write-word-requires c κs =
     let x = c .before .before .before .before .before .before .before .before .before .before .args in
     let p = passed (c .before .before .before .before .before) in
-    subst (λ (l : List ℕ). Encodable (x .q) l (x .m) (now (x .message)) (now (x .word))) (sym (columns-are (c .before .before .before))) (encodable (x .q) (x .m) (now (x .message)) (now (x .word)) (p .0) (p .1) (p .2))
+    subst (λ (l : List ℕ). Encodable (x .q) l (x .m) (now (x .message)) (now (x .word))) (sym (columns-are (c .before .before .before)))
+    (encodable (x .q) (x .m) (now (x .message)) (now (x .word)) (p .0) (p .1) (p .2))
 
 same-length : tie.Need-same-length
 same-length c = search needs
@@ -81,8 +85,10 @@ returns-2 : tie.Need-returns-2
 unfolding encoded
 returns-2 c =
     let x = c .before .before .before .before .before .before .before .before .before .before .before .before .before .args in
-    not-refused _ (now (x .word)) _ (sym (c .before .before .before .before .before .before .before .before .before .before .call .ensures) ∙ c .before .before .before .before .before .before .before .before .enum-told .given .1)
-    ∙ ap (answered Done) (sym (c .before .before .write-word .ensures ∙ ap (λ (l : List ℕ). wordOf (x .q) l (x .m) (now (x .message))) (columns-are (c .before .before .before .before .before .before))))
+    not-refused _ (now (x .word)) _ (sym (c .before .before .before .before .before .before .before .before .before .before .call .ensures)
+    ∙ c .before .before .before .before .before .before .before .before .enum-told .given .1)
+    ∙ ap (answered Done) (sym (c .before .before .write-word .ensures ∙ ap (λ (l : List ℕ). wordOf (x .q) l (x .m) (now (x .message)))
+    (columns-are (c .before .before .before .before .before .before))))
 
 pub encode-spec : {M : Type 1} → statement M
 encode-spec =

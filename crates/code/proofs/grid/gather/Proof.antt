@@ -38,7 +38,13 @@ shared-slice-read-message c =
     let s = c .before .before .before .before .before .before in
     let q = s .args .q in
     let i = number (c .before .before) in
-    omega (arith, c .before .entry .ensures (s .args .m) i, entry-at-most q (curve-pos q (s .pre .0)) (s .args .m) (c .before .before .before .loop .n) i, s .pre .1)
+    omega (
+      arith,
+      c .before .entry .ensures (s .args .m) i,
+      entry-at-most q (curve-pos q (s .pre .0)) (s .args .m)
+          (c .before .before .before .loop .n) i,
+      s .pre .1,
+    )
 
 slice-write-message : tie.Need-slice-write-message Inv-loop μ-loop
 slice-write-message c = c .before .before .loop-test .taken
@@ -67,7 +73,8 @@ returns c =
     let l = c .before .loop in
     let s = c .before .before .before .before in
     let x = s .args in
-    writes-end (now (x .message)) (listed (entriesOf (x .q) (x .m)) (now (x .grid))) (l .message) (l .n) (length (now (x .message))) (l .inv .2) (l .inv .0)
+    writes-end (now (x .message)) (listed (entriesOf (x .q) (x .m)) (now (x .grid))) (l .message) (l .n) (length (now (x .message))) (l .inv .2)
+    (l .inv .0)
     (omega (arith, l .inv .1, c .loop-test .left))
     ∙ gather-written (x .q) (curve-pos (x .q) (s .pre .0)) (x .m) (now (x .grid)) (now (x .message)) (s .pre .2)
 

@@ -19,7 +19,8 @@ abbrev μ-loop : tie.MeasureT-loop
 μ-loop entries grid out₀ n₀ out n = length entries - n
 
 long : (c : tie.At-loop Inv-loop μ-loop) → length (c .loop .out) ≡ length (now (c .before .args .out))
-long c = let x = c .before .args in ap length (c .loop .inv .1) ∙ length-writes (now (x .out)) (listed (now (x .entries)) (now (x .grid))) (c .loop .n)
+long c = let x = c .before .args in ap length (c .loop .inv .1) ∙ length-writes (now (x .out)) (listed (now (x .entries)) (now (x .grid)))
+    (c .loop .n)
 
 loop-holds : tie.Need-loop-holds Inv-loop μ-loop
 unfolding writes
@@ -49,8 +50,11 @@ loop-less c = omega (arith, c .before .before .loop-test .taken)
 loop-again : tie.Need-loop-again Inv-loop μ-loop
 loop-again c =
     let l = c .before .before .before .loop in
-    let x = c .before .before .before .before .args in
-    (omega (arith, c .before .before .loop-test .taken), writes-turn (now (x .out)) (listed (now (x .entries)) (now (x .grid))) (l .out) (l .n) _ (l .inv .1) refl)
+    let x = c .before .before .before .before .args in (
+      omega (arith, c .before .before .loop-test .taken),
+      writes-turn (now (x .out)) (listed (now (x .entries)) (now (x .grid))) (l .out) (l .n) _
+          (l .inv .1) refl,
+    )
 
 same-length : tie.Need-same-length Inv-loop μ-loop
 same-length c = long (c .before)
@@ -59,7 +63,8 @@ returns : tie.Need-returns Inv-loop μ-loop
 returns c =
     let l = c .before .loop in
     let x = c .before .before .args in
-    writes-end (now (x .out)) (listed (now (x .entries)) (now (x .grid))) (l .out) (l .n) (length (now (x .entries))) (l .inv .1) (l .inv .0) (c .loop-test .left)
+    writes-end (now (x .out)) (listed (now (x .entries)) (now (x .grid))) (l .out) (l .n) (length (now (x .entries))) (l .inv .1) (l .inv .0)
+    (c .loop-test .left)
 
 pub gather-listed-spec : {M : Type 1} → statement M
 gather-listed-spec =

@@ -27,19 +27,33 @@ abbrev μ-loop : tie.MeasureT-loop
 μ-loop q m grid curve more e₀ e = length grid - e
 
 -- the weights of x^i and of y^j, for the exponents of entry e
-in-x : (c : tie.After-divide Inv-loop μ-loop) → let i = c .divide .result .whole in c .before .before .before .before .before .before .at .result .«weight_x» * i ≡ c .before .before .before .before .before .before .before .before .args .q * i
+in-x : (c : tie.After-divide Inv-loop μ-loop) → let i = c .divide .result .whole in
+    c .before .before .before .before .before .before .at .result .«weight_x» * i
+    ≡ c .before .before .before .before .before .before .before .before .args .q * i
 in-x c = ap (λ (v : Curve). v .«weight_x» * c .divide .result .whole) (c .before .before .before .before .before .before .at .ensures)
 
-in-y : (c : tie.After-divide Inv-loop μ-loop) → let j = c .divide .result .rest in c .before .before .before .before .before .before .at .result .«weight_y» * j ≡ (c .before .before .before .before .before .before .before .before .args .q + 1) * j
+in-y : (c : tie.After-divide Inv-loop μ-loop) → let j = c .divide .result .rest in
+    c .before .before .before .before .before .before .at .result .«weight_y» * j
+    ≡ (c .before .before .before .before .before .before .before .before .args .q + 1) * j
 in-y c = ap (λ (v : Curve). v .«weight_y» * c .divide .result .rest) (c .before .before .before .before .before .before .at .ensures)
 
-x-small : (c : tie.After-divide Inv-loop μ-loop) → c .before .before .before .before .before .before .at .result .«weight_x» * c .divide .result .whole ≤ 512
+x-small : (c : tie.After-divide Inv-loop μ-loop)
+    → c .before .before .before .before .before .before .at .result .«weight_x» * c .divide .result .whole ≤ 512
 x-small c =
     let s = c .before .before .before .before .before .before .before .before in
-    omega (arith, in-x c, split-sum (s .args .q) (c .before .before .before .loop .e) _ _ (c .divide .ensures), c .before .before .loop-test .taken, s .pre .1)
+    omega (
+      arith,
+      in-x c,
+      split-sum (s .args .q) (c .before .before .before .loop .e) _ _
+          (c .divide .ensures),
+      c .before .before .loop-test .taken,
+      s .pre .1,
+    )
 
-y-small : (c : tie.After-divide Inv-loop μ-loop) → c .before .before .before .before .before .before .at .result .«weight_y» * c .divide .result .rest ≤ 20
-y-small c = let s = c .before .before .before .before .before .before .before .before in omega (arith, in-y c, small-weight (s .args .q) (s .pre .0) _ _ (c .divide .ensures .1))
+y-small : (c : tie.After-divide Inv-loop μ-loop)
+    → c .before .before .before .before .before .before .at .result .«weight_y» * c .divide .result .rest ≤ 20
+y-small c = let s = c .before .before .before .before .before .before .before .before in
+    omega (arith, in-y c, small-weight (s .args .q) (s .pre .0) _ _ (c .divide .ensures .1))
 
 at-requires : tie.Need-at-requires Inv-loop μ-loop
 at-requires c κs = c .before .pre .0
@@ -55,7 +69,8 @@ loop-holds c =
     let grid = now (s .args .grid) in
     let more = c .before .before .at .result .symbols in
     let is : more ≡ q * q = ap (λ (v : Curve). v .symbols) (c .before .before .at .ensures) in
-    ⊎-elim (λ v. rw (v .1) (within-start q m grid (curve-pos q (s .pre .0)) (m - more) (omega (arith, v .0 .taken, is)))) (λ v. rw (v .1) (within-zero q m grid))
+    ⊎-elim (λ v. rw (v .1) (within-start q m grid (curve-pos q (s .pre .0)) (m - more) (omega (arith, v .0 .taken, is))))
+    (λ v. rw (v .1) (within-zero q m grid))
     (c .if1 .came)
 
 sub-highest : tie.Need-sub-highest Inv-loop μ-loop
@@ -77,7 +92,8 @@ returns c =
     let grid = now (x .grid) in
     let k : l .e ≤ length grid = omega (arith, c .before .before .before .before .loop-test .taken) in
     within-rest (x .q) (x .m) grid (l .e) _ (l .inv) (c .before .before .before .if2 .taken) k
-    (subst (λ (n : ℕ). Highest (part grid (l .e) (length grid)) n (c .highest .result)) (length-part grid (l .e) (length grid) k (omega arith)) (c .highest .ensures))
+    (subst (λ (n : ℕ). Highest (part grid (l .e) (length grid)) n (c .highest .result)) (length-part grid (l .e) (length grid) k (omega arith))
+    (c .highest .ensures))
 
 divide-requires : tie.Need-divide-requires Inv-loop μ-loop
 divide-requires c κs = c .before .before .before .before .before .before .before .pre .0
@@ -100,7 +116,8 @@ returns-2 c =
     let l = c .before .before .before .before .before .before .before .before .before .before .loop in
     let d = c .before .before .before .before .before .before .before in
     sym (within-stop (s .args .q) (s .args .m) (l .e) _ _ (now (s .args .grid)) (d .divide .ensures) (l .inv) (length (now (s .args .grid)))
-    (c .before .before .before .before .before .before .before .before .before .loop-test .taken) (omega (arith, c .before .before .if3 .taken, in-x d, in-y d)) (c .if4 .taken))
+    (c .before .before .before .before .before .before .before .before .before .loop-test .taken)
+    (omega (arith, c .before .before .if3 .taken, in-x d, in-y d)) (c .if4 .taken))
 
 add-e : tie.Need-add-e Inv-loop μ-loop
 add-e c = omega (arith, c .before .before .before .before .before .before .before .before .loop-test .taken)

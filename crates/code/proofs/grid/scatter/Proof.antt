@@ -28,10 +28,15 @@ size-requires : tie.Need-size-requires Inv-loop μ-loop
 size-requires c κs = c .before .before .pre .0 .0
 
 loop-holds : tie.Need-loop-holds Inv-loop μ-loop
-loop-holds c = let x = c .before .before .before .args in (omega arith, refl, sym (laid-none (entriesOf (x .q) (x .m)) (now (x .message)) (now (x .grid))))
+loop-holds c = let x = c .before .before .before .args in
+    (omega arith, refl, sym (laid-none (entriesOf (x .q) (x .m)) (now (x .message)) (now (x .grid))))
 
 entry-requires : tie.Need-entry-requires Inv-loop μ-loop
-entry-requires c κs = (c .before .before .before .before .before .pre .0 .0, omega (arith, number c, c .before .before .before .before .before .pre .0 .2))
+entry-requires c κs = (
+  c .before .before .before .before .before .pre .0 .0,
+  omega
+      (arith, number c, c .before .before .before .before .before .pre .0 .2),
+)
 
 shared-slice-read-grid : tie.Need-shared-slice-read-grid Inv-loop μ-loop
 shared-slice-read-grid c = omega (arith, number (c .before .before), c .before .before .before .before .before .before .before .pre .0 .2)
@@ -41,8 +46,14 @@ slice-write-grid c =
     let s = c .before .before .before .before .before .before .before in
     let q = s .args .q in
     let i = number (c .before .before) in
-    omega
-    (arith, c .before .entry .ensures (s .args .m) i, entry-at-most q (curve-pos q (s .pre .0 .0)) (s .args .m) (c .before .before .before .loop .n) i, s .pre .0 .1, c .before .before .before .loop .inv .1)
+    omega (
+      arith,
+      c .before .entry .ensures (s .args .m) i,
+      entry-at-most q (curve-pos q (s .pre .0 .0)) (s .args .m)
+          (c .before .before .before .loop .n) i,
+      s .pre .0 .1,
+      c .before .before .before .loop .inv .1,
+    )
 
 add-n : tie.Need-add-n Inv-loop μ-loop
 add-n c = omega (arith, c .before .before .loop-test .taken)
@@ -56,7 +67,8 @@ loop-again c =
     let x = c .before .before .before .before .before .before .before .args in (
       omega arith,
       simp length-set (l .inv .1),
-      laid-turn (entriesOf (x .q) (x .m)) (now (x .message)) (now (x .grid)) (l .grid) (l .n) _ (l .inv .2) (c .before .entry .ensures (x .m) (number (c .before .before))),
+      laid-turn (entriesOf (x .q) (x .m)) (now (x .message)) (now (x .grid)) (l .grid) (l .n) _ (l .inv .2)
+          (c .before .entry .ensures (x .m) (number (c .before .before))),
     )
 
 same-length : tie.Need-same-length Inv-loop μ-loop

@@ -30,7 +30,8 @@ shared-slice-read-if2 c = omega (arith, c .before .before .before .before .befor
 returns : tie.Need-returns Inv-loop μ-loop
 returns c =
     let x = c .before .before .before .before .before .before .args in
-    sym (agrees-not (now (x .broken)) (now (x .whole)) (c .before .before .before .before .before .loop .p) (c .before .before .before .before .loop-test .taken) (c .before .before .if1 .taken) (c .if2 .taken))
+    sym (agrees-not (now (x .broken)) (now (x .whole)) (c .before .before .before .before .before .loop .p)
+    (c .before .before .before .before .loop-test .taken) (c .before .before .if1 .taken) (c .if2 .taken))
 
 add-p : tie.Need-add-p Inv-loop μ-loop
 add-p c = omega arith

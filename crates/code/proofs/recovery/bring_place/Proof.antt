@@ -21,16 +21,20 @@ use Rattle.code.proofs.recovery.bring_place.Tie as tie
 -- the point of the place
 point : (c : tie.After-ys) → let x = c .before .before .before .before .before .before .args in let d = c .before .before .divide .result in
     (d .whole < length (now (x .columns))) × (x .q * getD (now (x .columns)) (d .whole) 0 + d .rest < 64)
-    × (getD (c .ys .result) (x .q * getD (now (x .columns)) (d .whole) 0 + d .rest) 0 ≡ getD (ysOf (x .q) (getD (now (x .columns)) (x .p / x .q) 0)) (x .p % x .q) 0)
+    × (getD (c .ys .result) (x .q * getD (now (x .columns)) (d .whole) 0 + d .rest) 0
+    ≡ getD (ysOf (x .q) (getD (now (x .columns)) (x .p / x .q) 0)) (x .p % x .q) 0)
 point c =
     let s = c .before .before .before .before .before .before in
-    place-point (s .args .q) (now (s .args .columns)) (s .pre .0 .0) (s .args .p) _ _ (c .before .before .divide .ensures) (s .pre .0 .1) (c .ys .result) (c .ys .ensures)
+    place-point (s .args .q) (now (s .args .columns)) (s .pre .0 .0) (s .args .p) _ _ (c .before .before .divide .ensures) (s .pre .0 .1)
+    (c .ys .result) (c .ys .ensures)
 
 -- its x is one of the columns
-x-is : (c : tie.After-ys) → let x = c .before .before .before .before .before .before .args in getD (now (x .columns)) (c .before .before .divide .result .whole) 0 ≡ getD (now (x .columns)) (x .p / x .q) 0
+x-is : (c : tie.After-ys) → let x = c .before .before .before .before .before .before .args in
+    getD (now (x .columns)) (c .before .before .divide .result .whole) 0 ≡ getD (now (x .columns)) (x .p / x .q) 0
 x-is c = ap (λ (i : ℕ). getD (now (c .before .before .before .before .before .before .args .columns)) i 0) (c .before .before .divide .ensures .0)
 
-x-lt : (c : tie.After-ys) → let x = c .before .before .before .before .before .before .args in getD (now (x .columns)) (c .before .before .divide .result .whole) 0 < x .q * x .q
+x-lt : (c : tie.After-ys) → let x = c .before .before .before .before .before .before .args in
+    getD (now (x .columns)) (c .before .before .divide .result .whole) 0 < x .q * x .q
 x-lt c = c .before .before .before .before .before .before .pre .0 .0 .small _ (point c .0)
 
 divide-requires : tie.Need-divide-requires
@@ -110,7 +114,8 @@ returns c =
     let work = b .last .1 .1 .1 .1 .0 in (
       subst (λ (k : ℕ). WellFormed (fieldOf (x .q)) 64 k work) is-k (b .ensures .0),
       place-brought (x .q) (now (x .columns)) (x .m) (x .p) (x .s) _ _ _ (e .ensures) (x-is y) (point y .2) (now (x .work)) work (b .result)
-          (subst (λ (k : ℕ). Brought (fieldOf (x .q)) 64 k (now (x .work)) (entry (e .last .1 .1 .1 .1 .1 .1 .0)) work (b .result)) is-k (b .ensures .1)),
+          (subst (λ (k : ℕ). Brought (fieldOf (x .q)) 64 k (now (x .work)) (entry (e .last .1 .1 .1 .1 .1 .1 .0)) work (b .result)) is-k
+          (b .ensures .1)),
     )
 
 pub bring-place-spec : {M : Type 1} → statement M

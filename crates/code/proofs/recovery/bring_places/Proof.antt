@@ -29,13 +29,16 @@ abbrev μ-loop : tie.MeasureT-loop
 
 -- what the step left, by whether it clashed
 stepped : (c : tie.After-slice-known2 Inv-loop μ-loop) (b : Bool) → c .before .before .step .result .clash ≡ b
-    → let x = c .before .before .before .before .before .before .before .before .before .before .before .before .args in let l = c .before .before .before .before .before .before .before .loop in
-    Advanced (x .q) (now (x .columns)) (x .m) (l .p) (getD (now (x .word)) (l .p) 0) (l .rank) (l .work) (c .before .before .step .last .1 .1 .1 .1 .1 .1 .1 .0) b (c .before .before .step .result .rank)
+    → let x = c .before .before .before .before .before .before .before .before .before .before .before .before .args in let l =
+    c .before .before .before .before .before .before .before .loop in
+    Advanced (x .q) (now (x .columns)) (x .m) (l .p) (getD (now (x .word)) (l .p) 0) (l .rank) (l .work)
+    (c .before .before .step .last .1 .1 .1 .1 .1 .1 .1 .0) b (c .before .before .step .result .rank)
 stepped c b e =
     let x = c .before .before .before .before .before .before .before .before .before .before .before .before .args in
     let l = c .before .before .before .before .before .before .before .loop in
     let r = c .before .before .step in
-    subst (λ (t : Bool). Advanced (x .q) (now (x .columns)) (x .m) (l .p) (getD (now (x .word)) (l .p) 0) (l .rank) (l .work) (r .last .1 .1 .1 .1 .1 .1 .1 .0) t (r .result .rank)) e (r .ensures)
+    subst (λ (t : Bool). Advanced (x .q) (now (x .columns)) (x .m) (l .p) (getD (now (x .word)) (l .p) 0) (l .rank) (l .work)
+    (r .last .1 .1 .1 .1 .1 .1 .1 .0) t (r .result .rank)) e (r .ensures)
 
 loop-holds : tie.Need-loop-holds Inv-loop μ-loop
 loop-holds c =
@@ -51,7 +54,8 @@ returns c =
     let s = c .before .before .before .before .before .before .before in
     let x = s .args in
     let l = c .before .before .loop in
-    ended-full (x .q) (now (x .columns)) (x .m) (now (x .word)) (l .work) (l .p) (l .rank) (l .inv .0) (l .inv .2) (c .if1 .taken ∙ ap length (s .pre .0 .1) ∙ length-entries (x .q) (x .m))
+    ended-full (x .q) (now (x .columns)) (x .m) (now (x .word)) (l .work) (l .p) (l .rank) (l .inv .0) (l .inv .2)
+    (c .if1 .taken ∙ ap length (s .pre .0 .1) ∙ length-entries (x .q) (x .m))
 
 shared-slice-read-step : tie.Need-shared-slice-read-step Inv-loop μ-loop
 shared-slice-read-step c = omega arith
@@ -75,7 +79,8 @@ step-requires c κs =
     )
 
 same-length-2 : tie.Need-same-length-2 Inv-loop μ-loop
-same-length-2 c = c .before .before .before .step .kept .1 .1 .1 .1 .1 .1 .1 .0 ∙ c .before .before .before .before .before .before .before .before .loop .inv .1
+same-length-2 c = c .before .before .before .step .kept .1 .1 .1 .1 .1 .1 .1 .0
+    ∙ c .before .before .before .before .before .before .before .before .loop .inv .1
 
 returns-2 : tie.Need-returns-2 Inv-loop μ-loop
 returns-2 c =
@@ -84,7 +89,8 @@ returns-2 c =
     let r = c .before .before .before .step in
     let work = r .last .1 .1 .1 .1 .1 .1 .1 .0 in
     subst (λ (t : Bool). Ended (x .q) (now (x .columns)) (x .m) (now (x .word)) work t (r .result .rank)) (sym (c .if2 .taken))
-    (ended-clash (x .q) (now (x .columns)) (x .m) (now (x .word)) (l .work) work (l .p) (l .rank) (r .result .rank) (r .result .rank) (c .before .before .before .before .before .before .before .loop-test .taken) (l .inv .2) (stepped (c .before) true (c .if2 .taken)))
+    (ended-clash (x .q) (now (x .columns)) (x .m) (now (x .word)) (l .work) work (l .p) (l .rank) (r .result .rank) (r .result .rank)
+    (c .before .before .before .before .before .before .before .loop-test .taken) (l .inv .2) (stepped (c .before) true (c .if2 .taken)))
 
 add-p : tie.Need-add-p Inv-loop μ-loop
 add-p c = omega arith
@@ -99,7 +105,8 @@ loop-again c =
     let r = c .before .before .before .step in (
       omega arith,
       r .kept .1 .1 .1 .1 .1 .1 .1 .0 ∙ l .inv .1,
-      collected-more (x .q) (now (x .columns)) (x .m) (now (x .word)) (l .work) _ (l .p) (l .rank) (r .result .rank) (l .inv .2) (stepped (c .before) false (c .if2 .left)),
+      collected-more (x .q) (now (x .columns)) (x .m) (now (x .word)) (l .work) _ (l .p) (l .rank) (r .result .rank) (l .inv .2)
+          (stepped (c .before) false (c .if2 .left)),
     )
 
 same-length-3 : tie.Need-same-length-3 Inv-loop μ-loop

@@ -38,7 +38,8 @@ bring-places-requires c κs =
     let s = c .before .before .before .before .before .before .before .before in
     let x = s .args in
     let e = c .before .before .before .entries2 in
-    let is = entries-taken (x .q) (x .m) (x .k) (e .last .1 .1 .0) (replicate 64 0) (s .pre .0 .1) (omega (arith, s .pre .0 .1, s .pre .1 .0 .room)) (e .ensures) in
+    let is = entries-taken (x .q) (x .m) (x .k) (e .last .1 .1 .0) (replicate 64 0) (s .pre .0 .1) (omega (arith, s .pre .0 .1, s .pre .1 .0 .room))
+    (e .ensures) in
     ((s .pre .0 .0, is), s .pre .1)
 
 same-length : tie.Need-same-length

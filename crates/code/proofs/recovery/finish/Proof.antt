@@ -15,17 +15,21 @@ use Rattle.code.proofs.recovery.finish.Statement.{statement}
 use Rattle.code.proofs.recovery.finish.Tie as tie
 
 -- k and n are at most 64
-room : (c : tie.After-slice-known) → (c .before .before .before .before .args .k ≤ 64) × (length (now (c .before .before .before .before .args .word)) ≤ 64)
+room : (c : tie.After-slice-known) → (c .before .before .before .before .args .k ≤ 64)
+    × (length (now (c .before .before .before .before .args .word)) ≤ 64)
 room c =
     let h = c .before .before .before .before .pre in
     (omega (arith, h .0 .1, h .1 .0 .room), omega (arith, h .0 .0 .long, columns-short _ _ (h .0 .0 .over) (h .0 .0 .few)))
 
 -- the solution is as long as a message
-long : (c : tie.After-settle) → length (c .settle .last .1 .1 .1 .1 .1 .1 .0) ≡ size (c .before .before .before .before .before .before .before .args .q) (c .before .before .before .before .before .before .before .args .m)
-long c = c .settle .kept .1 .1 .1 .1 .1 .1 .0 ∙ length-take-le _ (replicate 64 0) (room (c .before .before .before) .0) ∙ c .before .before .before .before .before .before .before .pre .0 .1
+long : (c : tie.After-settle) → length (c .settle .last .1 .1 .1 .1 .1 .1 .0)
+    ≡ size (c .before .before .before .before .before .before .before .args .q) (c .before .before .before .before .before .before .before .args .m)
+long c = c .settle .kept .1 .1 .1 .1 .1 .1 .0 ∙ length-take-le _ (replicate 64 0) (room (c .before .before .before) .0)
+    ∙ c .before .before .before .before .before .before .before .pre .0 .1
 
 -- the array has its length again
-whole : (c : tie.After-settle) → length (c .settle .last .1 .1 .1 .1 .1 .1 .0 ++ drop (c .before .before .before .before .before .before .before .args .k) (replicate 64 0)) ≡ 64
+whole : (c : tie.After-settle) → length (c .settle .last .1 .1 .1 .1 .1 .1 .0 ++ drop
+    (c .before .before .before .before .before .before .before .args .k) (replicate 64 0)) ≡ 64
 whole c =
     simp (length-append, length-drop)
     (omega (arith, long c, c .before .before .before .before .before .before .before .pre .0 .1, room (c .before .before .before) .0))
@@ -53,8 +57,15 @@ slice-aggregate-copy c = sym (whole (c .before .before .before .before))
 
 copy-requires : tie.Need-copy-requires
 copy-requires c κs =
-    let h = c .before .before .before .before .before .before .before .before .before .before .before .before .pre in
-    (omega (arith, whole (c .before .before .before .before .before), room (c .before .before .before .before .before .before .before .before) .0), omega (arith, h .0 .1, h .0 .2))
+    let h = c .before .before .before .before .before .before .before .before .before .before .before .before .pre in (
+      omega (
+        arith,
+        whole (c .before .before .before .before .before),
+        room
+            (c .before .before .before .before .before .before .before .before) .0,
+      ),
+      omega (arith, h .0 .1, h .0 .2),
+    )
 
 same-length : tie.Need-same-length
 same-length c = search needs
@@ -64,14 +75,16 @@ returns c =
     let s = c .before .before .before .before .before .before .before .before .before .before .before .before .before .before .before in
     let x = s .args in
     let t = c .before .before .before .before .before .before .before .before in
-    finished-true (x .q) (now (x .columns)) (x .m) (now (x .word)) (now (x .work)) (now (x .message)) _ _ _ (t .settle .ensures .0) (long t) (t .settle .ensures .1) (c .before .before .before .before .before .if1 .taken)
+    finished-true (x .q) (now (x .columns)) (x .m) (now (x .word)) (now (x .work)) (now (x .message)) _ _ _ (t .settle .ensures .0) (long t)
+    (t .settle .ensures .1) (c .before .before .before .before .before .if1 .taken)
     (c .before .before .copy .ensures ∙ copied (x .k) _ _ (now (x .message)) (long t ∙ sym (s .pre .0 .1)) (s .pre .0 .2 ∙ sym (s .pre .0 .1)))
 
 returns-2 : tie.Need-returns-2
 returns-2 c =
     let x = c .before .before .before .before .before .before .before .before .before .before .args in
     let t = c .before .before .before in
-    finished-false (x .q) (now (x .columns)) (x .m) (now (x .word)) (now (x .work)) (now (x .message)) _ _ (t .settle .ensures .0) (long t) (t .settle .ensures .1) (c .if1 .left)
+    finished-false (x .q) (now (x .columns)) (x .m) (now (x .word)) (now (x .work)) (now (x .message)) _ _ (t .settle .ensures .0) (long t)
+    (t .settle .ensures .1) (c .if1 .left)
 
 pub finish-spec : {M : Type 1} → statement M
 finish-spec =

@@ -23,7 +23,8 @@ abbrev μ-loop : tie.MeasureT-loop
 μ-loop q x y n grid₀ width row₀ i₀ at₀ grid row i at = n - i
 
 -- the row is within the grid
-fits : (c : tie.In-loop Inv-loop μ-loop) → c .before .loop .at + c .before .before .before .before .before .before .args .q ≤ length (c .before .loop .grid)
+fits : (c : tie.In-loop Inv-loop μ-loop) → c .before .loop .at + c .before .before .before .before .before .before .args .q ≤ length
+    (c .before .loop .grid)
 fits c =
     let s = c .before .before .before .before .before .before in
     let l = c .before .loop in

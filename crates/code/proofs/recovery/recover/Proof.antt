@@ -26,11 +26,14 @@ use Rattle.code.proofs.recovery.recover.Tie as tie
 
 -- past the checks
 passed : (c : tie.After-enum-told) → let x = c .before .before .before .before .before .args in
-    IsCurve (x .q) × (x .m < x .q * x .q * x .q) × Accepted true (x .q * x .q) (x .q * x .q * x .q) (now (x .word)) (size (x .q) (x .m)) (length (now (x .message)))
-passed c = let x = c .before .before .before .before .before .args in call-done true true (x .q) (x .m) (now (x .word)) (length (now (x .message))) (sym (c .before .before .call .ensures) ∙ c .enum-told .given .1)
+    IsCurve (x .q) × (x .m < x .q * x .q * x .q) × Accepted true (x .q * x .q) (x .q * x .q * x .q) (now (x .word)) (size (x .q) (x .m))
+    (length (now (x .message)))
+passed c = let x = c .before .before .before .before .before .args in call-done true true (x .q) (x .m) (now (x .word)) (length (now (x .message)))
+    (sym (c .before .before .call .ensures) ∙ c .enum-told .given .1)
 
 -- the columns that are lent
-columns-are : (c : tie.After-at) → let x = c .before .before .before .before .before .before .before .args in take (c .at .result .symbols) (c .before .columns .result) ≡ columnsOf (x .q)
+columns-are : (c : tie.After-at) → let x = c .before .before .before .before .before .before .before .args in
+    take (c .at .result .symbols) (c .before .columns .result) ≡ columnsOf (x .q)
 columns-are c =
     let q = c .before .before .before .before .before .before .before .args .q in
     ap (λ (v : Curve). take (v .symbols) (c .before .columns .result)) (c .at .ensures) ∙ ap (take (q * q)) (c .before .columns .ensures)
@@ -71,7 +74,8 @@ recover-over-requires : tie.Need-recover-over-requires
 recover-over-requires c κs =
     let x = c .before .before .before .before .before .before .before .before .before .before .args in
     let p = passed (c .before .before .before .before .before) in (
-      subst (λ (l : List ℕ). BrokenOver (x .q) l (x .m) (now (x .word))) (sym (columns-are (c .before .before .before))) (broken-over (x .q) (x .m) (now (x .word)) _ _ (p .0) (p .1) (p .2)),
+      subst (λ (l : List ℕ). BrokenOver (x .q) l (x .m) (now (x .word))) (sym (columns-are (c .before .before .before)))
+          (broken-over (x .q) (x .m) (now (x .word)) _ _ (p .0) (p .1) (p .2)),
       p .2 .fits,
       p .2 .fits,
       size-short (x .q) (p .0) (x .m) (p .1),
@@ -85,9 +89,14 @@ unfolding recovered
 returns-2 c =
     let x = c .before .before .before .before .before .before .before .before .before .before .before .before .before .args in
     let r = c .before .before .recover-over in
-    not-refused _ (now (x .message)) _ (sym (c .before .before .before .before .before .before .before .before .before .before .call .ensures) ∙ c .before .before .before .before .before .before .before .before .enum-told .given .1)
-    ∙ ap (λ (l : List ℕ). told (reading (x .q * x .q) (size (x .q) (x .m)) (wordOf (x .q) l (x .m)) (now (x .word))) (now (x .message))) (sym (columns-are (c .before .before .before .before .before .before)))
-    ∙ subst (λ (Q : ℕ). told (reading Q (size (x .q) (x .m)) (wordOf (x .q) (take (c .before .before .before .before .before .before .at .result .symbols) (c .before .before .before .before .before .before .before .columns .result)) (x .m)) (now (x .word))) (now (x .message)) ≡ answered (r .result) (r .last .1 .1 .1 .1 .1 .0))
+    not-refused _ (now (x .message)) _ (sym (c .before .before .before .before .before .before .before .before .before .before .call .ensures)
+    ∙ c .before .before .before .before .before .before .before .before .enum-told .given .1)
+    ∙ ap (λ (l : List ℕ). told (reading (x .q * x .q) (size (x .q) (x .m)) (wordOf (x .q) l (x .m)) (now (x .word))) (now (x .message)))
+    (sym (columns-are (c .before .before .before .before .before .before)))
+    ∙ subst (λ (Q : ℕ). told (reading Q (size (x .q) (x .m)) (wordOf (x .q)
+    (take (c .before .before .before .before .before .before .at .result .symbols)
+    (c .before .before .before .before .before .before .before .columns .result)) (x .m)) (now (x .word))) (now (x .message))
+    ≡ answered (r .result) (r .last .1 .1 .1 .1 .1 .0))
     (sizes (x .q) (passed (c .before .before .before .before .before .before .before .before) .0) .size) (r .ensures)
 
 pub recover-spec : {M : Type 1} → statement M

@@ -23,10 +23,12 @@ use Rattle.code.proofs.recovery.recover_by_equations.Tie as tie
 
 -- how collecting ended, by whether it clashed
 ended : (c : tie.After-collect) (b : Bool) → c .collect .result .clash ≡ b
-    → let x = c .before .before .before .before .before .args in Ended (x .q) (now (x .columns)) (x .m) (now (x .word)) (c .collect .last .1 .1 .1 .1 .1 .0) b (c .collect .result .rank)
+    → let x = c .before .before .before .before .before .args in Ended (x .q) (now (x .columns)) (x .m) (now (x .word))
+    (c .collect .last .1 .1 .1 .1 .1 .0) b (c .collect .result .rank)
 ended c b e =
     let x = c .before .before .before .before .before .args in
-    subst (λ (t : Bool). Ended (x .q) (now (x .columns)) (x .m) (now (x .word)) (c .collect .last .1 .1 .1 .1 .1 .0) t (c .collect .result .rank)) e (c .collect .ensures)
+    subst (λ (t : Bool). Ended (x .q) (now (x .columns)) (x .m) (now (x .word)) (c .collect .last .1 .1 .1 .1 .1 .0) t (c .collect .result .rank)) e
+    (c .collect .ensures)
 
 slice-aggregate-collect : tie.Need-slice-aggregate-collect
 slice-aggregate-collect c = search needs
@@ -42,13 +44,15 @@ unfolding told
 returns c =
     let s = c .before .before .before .before .before .before .before in
     let x = s .args in
-    ap (λ (r : Reading). told r (now (x .message))) (clash-nothing (x .q) (now (x .columns)) (x .m) (now (x .word)) (s .pre .0) (c .before .before .collect .last .1 .1 .1 .1 .1 .0) (c .before .before .collect .result .rank) (ended (c .before .before) true (c .if1 .taken)))
+    ap (λ (r : Reading). told r (now (x .message))) (clash-nothing (x .q) (now (x .columns)) (x .m) (now (x .word)) (s .pre .0)
+    (c .before .before .collect .last .1 .1 .1 .1 .1 .0) (c .before .before .collect .result .rank)
+    (ended (c .before .before) true (c .if1 .taken)))
 
 sub-t12 : tie.Need-sub-t12
 sub-t12 c = search needs
 
 cast-t13 : tie.Need-cast-t13
-cast-t13 c = omega (arith, c .before .before .before .before .before .before .before .before .before .before .pre .1, c .before .before .before .before .before .before .before .before .before .before .pre .3)
+cast-t13 c = let s = c .before .before .before .before .before .before .before .before .before .before in omega (arith, s .pre .1, s .pre .3)
 
 returns-2 : tie.Need-returns-2
 unfolding told
@@ -57,7 +61,8 @@ returns-2 c =
     let x = s .args in
     let k = s .pre .1 in
     ap (λ (r : Reading). told r (now (x .message)))
-    (missing-several (x .q) (now (x .columns)) (x .m) (now (x .word)) (s .pre .0) _ _ (ended (c .before .before .before .before .before) false (c .before .before .before .if1 .left)) (omega (arith, c .before .if2 .taken, k)))
+    (missing-several (x .q) (now (x .columns)) (x .m) (now (x .word)) (s .pre .0) _ _
+    (ended (c .before .before .before .before .before) false (c .before .before .before .if1 .left)) (omega (arith, c .before .if2 .taken, k)))
     ∙ ap (λ (n : ℕ). answered (Several (n - c .before .before .before .before .before .collect .result .rank)) (now (x .message))) (sym k)
 
 slice-aggregate-finish : tie.Need-slice-aggregate-finish
@@ -72,7 +77,8 @@ finish-requires c κs =
       (s .pre .0, s .pre .1, s .pre .2),
       (
         g .collected .formed,
-        rank-full (fieldOf (x .q)) S (size (x .q) (x .m)) (omega (arith, g .collected .ranked, rank-le (fieldOf (x .q)) S (size (x .q) (x .m)), c .before .before .if2 .left, s .pre .1)),
+        rank-full (fieldOf (x .q)) S (size (x .q) (x .m))
+            (omega (arith, g .collected .ranked, rank-le (fieldOf (x .q)) S (size (x .q) (x .m)), c .before .before .if2 .left, s .pre .1)),
       ),
     )
 
@@ -86,9 +92,13 @@ returns-3 c =
     let x = s .args in
     let f = c .before .before .before .finish in
     let after = f .last .1 .1 .1 .1 .1 .1 .0 in
-    let e = subst (λ (b : Bool). Finished (x .q) (now (x .columns)) (x .m) (now (x .word)) (c .before .before .before .before .before .before .before .before .before .before .collect .last .1 .1 .1 .1 .1 .0) (now (x .message)) after b) (c .if3 .taken) (f .ensures) in
+    let e = subst (λ (b : Bool). Finished (x .q) (now (x .columns)) (x .m) (now (x .word))
+    (c .before .before .before .before .before .before .before .before .before .before .collect .last .1 .1 .1 .1 .1 .0)
+    (now (x .message)) after b) (c .if3 .taken) (f .ensures) in
     ap (λ (r : Reading). told r (now (x .message)))
-    (solution-alone (x .q) (now (x .columns)) (x .m) (now (x .word)) (s .pre .0) _ _ (ended (c .before .before .before .before .before .before .before .before .before .before) false (c .before .before .before .before .before .before .before .before .if1 .left)) (now (x .message)) after e)
+    (solution-alone (x .q) (now (x .columns)) (x .m) (now (x .word)) (s .pre .0) _ _
+    (ended (c .before .before .before .before .before .before .before .before .before .before) false
+    (c .before .before .before .before .before .before .before .before .if1 .left)) (now (x .message)) after e)
 
 same-length-2 : tie.Need-same-length-2
 same-length-2 c = search needs
@@ -100,9 +110,14 @@ returns-4 c =
     let x = s .args in
     let f = c .before .before .before .finish in
     let after = f .last .1 .1 .1 .1 .1 .1 .0 in
-    let e = subst (λ (b : Bool). Finished (x .q) (now (x .columns)) (x .m) (now (x .word)) (c .before .before .before .before .before .before .before .before .before .before .collect .last .1 .1 .1 .1 .1 .0) (now (x .message)) after b) (c .if3 .left) (f .ensures) in
+    let e = subst (λ (b : Bool). Finished (x .q) (now (x .columns)) (x .m) (now (x .word))
+    (c .before .before .before .before .before .before .before .before .before .before .collect .last .1 .1 .1 .1 .1 .0)
+    (now (x .message)) after b) (c .if3 .left) (f .ensures) in
     ap (λ (r : Reading). told r (now (x .message)))
-    (solution-not (x .q) (now (x .columns)) (x .m) (now (x .word)) (s .pre .0) _ _ (ended (c .before .before .before .before .before .before .before .before .before .before) false (c .before .before .before .before .before .before .before .before .if1 .left)) (now (x .message)) after e) ∙ ap (answered NoMessage) (sym (e .0))
+    (solution-not (x .q) (now (x .columns)) (x .m) (now (x .word)) (s .pre .0) _ _
+    (ended (c .before .before .before .before .before .before .before .before .before .before) false
+    (c .before .before .before .before .before .before .before .before .if1 .left)) (now (x .message)) after e)
+    ∙ ap (answered NoMessage) (sym (e .0))
 
 pub recover-by-equations-spec : {M : Type 1} → statement M
 recover-by-equations-spec =

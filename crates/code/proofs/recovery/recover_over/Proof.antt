@@ -23,7 +23,8 @@ use Rattle.code.proofs.recovery.recover_over.Statement.{statement}
 use Rattle.code.proofs.recovery.recover_over.Tie as tie
 
 -- where the search for a value that is no symbol finds none
-whole : (c : tie.Then1) → let x = c .before .before .before .before .before .before .args in Readable (x .q) (now (x .columns)) (x .m) (now (x .word)) (now (x .message))
+whole : (c : tie.Then1) → let x = c .before .before .before .before .before .before .args in
+    Readable (x .q) (now (x .columns)) (x .m) (now (x .word)) (now (x .message))
 whole c =
     let x = c .before .before .before .before .before .before .args in
     let h = c .before .before .before .before .before .before .pre in
@@ -62,7 +63,8 @@ returns c =
     let x = c .before .before .before .before .before .before .before .before .before .before .args in
     let r = c .before .before .read-word in
     let w = whole (c .before .before .before .before) in
-    subst (λ (Q : ℕ). told (reading Q (size (x .q) (x .m)) (wordOf (x .q) (now (x .columns)) (x .m)) (now (x .word))) (now (x .message)) ≡ answered (r .result) (r .last .1 .1 .1 .1 .0))
+    subst (λ (Q : ℕ). told (reading Q (size (x .q) (x .m)) (wordOf (x .q) (now (x .columns)) (x .m)) (now (x .word))) (now (x .message))
+    ≡ answered (r .result) (r .last .1 .1 .1 .1 .0))
     (sym (sizes (x .q) (w .whole .over .curve) .size))
     (whole-told (x .q) (now (x .columns)) (now (x .word)) (w .whole) (x .m) (w .order) (now (x .message)) ∙ r .ensures)
 

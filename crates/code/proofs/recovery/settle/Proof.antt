@@ -16,7 +16,8 @@ use Rattle.code.proofs.recovery.settle.Statement.{statement}
 use Rattle.code.proofs.recovery.settle.Tie as tie
 
 -- what forward substitution left
-solution : (c : tie.After-solve) → let x = c .before .before .before .before .before .before .before .args in Solves (fieldOf (x .q)) (size (x .q) (x .m)) (flat 64 (size (x .q) (x .m)) (now (x .work))) (c .solve .last .1 .1 .1 .1 .0)
+solution : (c : tie.After-solve) → let x = c .before .before .before .before .before .before .before .args in
+    Solves (fieldOf (x .q)) (size (x .q) (x .m)) (flat 64 (size (x .q) (x .m)) (now (x .work))) (c .solve .last .1 .1 .1 .1 .0)
 solution c =
     let s = c .before .before .before .before .before .before .before in
     let x = s .args in
@@ -41,7 +42,8 @@ write-word-requires c κs =
       few = h .few;
       order = h .order;
       long = e .kept .1 .1 .1 .1 .0 ∙ s .pre .1 .1 .0;
-      symbols = solution-below (s .args .q) (s .args .m) (now (s .args .work)) _ (solution (c .before .before .before .before)) (e .kept .1 .1 .1 .1 .0 ∙ s .pre .1 .1 .0);
+      symbols = solution-below (s .args .q) (s .args .m) (now (s .args .work)) _ (solution (c .before .before .before .before))
+          (e .kept .1 .1 .1 .1 .0 ∙ s .pre .1 .1 .0);
       room = s .pre .1 .1 .1 ∙ h .long;
     }
 
@@ -58,8 +60,11 @@ returns : tie.Need-returns
 unfolding fits
 returns c =
     let s = c .before .before .before .before .before .before .before .before .before .before .before .before .before .before .before .before in
-    let x = s .args in
-    (solution (c .before .before .before .before .before .before .before .before .before), c .agrees .ensures ∙ ap (agrees (now (x .word))) (c .before .before .before .before .write-word .ensures))
+    let x = s .args in (
+      solution (c .before .before .before .before .before .before .before .before .before),
+      c .agrees .ensures
+          ∙ ap (agrees (now (x .word))) (c .before .before .before .before .write-word .ensures),
+    )
 
 pub settle-spec : {M : Type 1} → statement M
 settle-spec =

@@ -19,10 +19,12 @@ use Rattle.code.proofs.recovery.step.Tie as tie
 -- what bringing in left, by its answer
 brought : (c : tie.After-slice-known2) (effect : Effect) → c .before .before .bring-place .result ≡ effect
     → let x = c .before .before .before .before .before .before .before .before .args in
-    Brought (fieldOf (x .q)) 64 (size (x .q) (x .m)) (now (x .work)) (equationOf (x .q) (now (x .columns)) (x .m) (x .p) (x .s)) (c .before .before .bring-place .last .1 .1 .1 .1 .1 .1 .0) effect
+    Brought (fieldOf (x .q)) 64 (size (x .q) (x .m)) (now (x .work)) (equationOf (x .q) (now (x .columns)) (x .m) (x .p) (x .s))
+    (c .before .before .bring-place .last .1 .1 .1 .1 .1 .1 .0) effect
 brought c effect e =
     let x = c .before .before .before .before .before .before .before .before .args in
-    subst (Brought (fieldOf (x .q)) 64 (size (x .q) (x .m)) (now (x .work)) (equationOf (x .q) (now (x .columns)) (x .m) (x .p) (x .s)) (c .before .before .bring-place .last .1 .1 .1 .1 .1 .1 .0)) e
+    subst (Brought (fieldOf (x .q)) 64 (size (x .q) (x .m)) (now (x .work)) (equationOf (x .q) (now (x .columns)) (x .m) (x .p) (x .s))
+    (c .before .before .bring-place .last .1 .1 .1 .1 .1 .1 .0)) e
     (c .before .before .bring-place .ensures .1)
 
 returns : tie.Need-returns
@@ -54,7 +56,9 @@ same-length c = search needs
 returns-2 : tie.Need-returns-2
 returns-2 c =
     let x = c .before .before .before .before .before .before .before .before .before .before .args in
-    taken-pivot (x .q) (now (x .columns)) (x .m) (x .p) (x .s) (now (x .work)) _ (x .rank) (c .before .before .before .before .before .before .if1 .left) (c .before .before .before .before .bring-place .ensures .0) (brought (c .before .before) _ (c .enum-told .given .1))
+    taken-pivot (x .q) (now (x .columns)) (x .m) (x .p) (x .s) (now (x .work)) _ (x .rank)
+    (c .before .before .before .before .before .before .if1 .left) (c .before .before .before .before .bring-place .ensures .0)
+    (brought (c .before .before) _ (c .enum-told .given .1))
 
 same-length-2 : tie.Need-same-length-2
 same-length-2 c = search needs
@@ -62,7 +66,9 @@ same-length-2 c = search needs
 returns-3 : tie.Need-returns-3
 returns-3 c =
     let x = c .before .before .before .before .before .before .before .before .before .before .args in
-    taken-redundant (x .q) (now (x .columns)) (x .m) (x .p) (x .s) (now (x .work)) _ (x .rank) (c .before .before .before .before .before .before .if1 .left) (c .before .before .before .before .bring-place .ensures .0) (brought (c .before .before) _ (c .enum-told2 .given .1))
+    taken-redundant (x .q) (now (x .columns)) (x .m) (x .p) (x .s) (now (x .work)) _ (x .rank)
+    (c .before .before .before .before .before .before .if1 .left) (c .before .before .before .before .bring-place .ensures .0)
+    (brought (c .before .before) _ (c .enum-told2 .given .1))
 
 same-length-3 : tie.Need-same-length-3
 same-length-3 c = search needs
@@ -70,7 +76,8 @@ same-length-3 c = search needs
 returns-4 : tie.Need-returns-4
 returns-4 c =
     let x = c .before .before .before .before .before .before .before .before .before .before .args in
-    clash (x .q) (now (x .columns)) (x .m) (x .p) (x .s) (now (x .work)) _ (x .rank) (x .rank) (c .before .before .before .before .before .before .if1 .left) (brought (c .before .before) _ (c .enum-told3 .given .1))
+    clash (x .q) (now (x .columns)) (x .m) (x .p) (x .s) (now (x .work)) _ (x .rank) (x .rank)
+    (c .before .before .before .before .before .before .if1 .left) (brought (c .before .before) _ (c .enum-told3 .given .1))
 
 pub step-spec : {M : Type 1} → statement M
 step-spec =

@@ -61,9 +61,12 @@ returns c =
     let s = c .before .before .before .before .before .before .before .before .before .before .before .before in
     let x = s .args in
     let g = c .before .before .before .before .before .before .monomials in
-    subst (λ (l : List ℕ). EquationAt (x .q) (x .m) (x .x) (x .y) (x .s) (set l (length (now (x .entries))) (x .s))) (sym (c .before .before .gather-listed .ensures))
-    (equation-written (x .q) (x .x) (x .y) (s .pre .0 .0) (x .m) (x .s) (now (x .entries)) (g .last .1 .1 .1 .1 .0) (now (x .row)) (s .pre .0 .2) (s .pre .0 .3)
-    (subst (λ (i : ℕ). Blocks (x .q) (termAt (x .q) (x .x) (x .y)) (g .last .1 .1 .1 .1 .0) (i + 1)) (c .before .before .before .before .before .before .before .before .before .divide .ensures .0) (g .ensures)))
+    subst (λ (l : List ℕ). EquationAt (x .q) (x .m) (x .x) (x .y) (x .s) (set l (length (now (x .entries))) (x .s)))
+    (sym (c .before .before .gather-listed .ensures))
+    (equation-written (x .q) (x .x) (x .y) (s .pre .0 .0) (x .m) (x .s) (now (x .entries)) (g .last .1 .1 .1 .1 .0) (now (x .row)) (s .pre .0 .2)
+    (s .pre .0 .3)
+    (subst (λ (i : ℕ). Blocks (x .q) (termAt (x .q) (x .x) (x .y)) (g .last .1 .1 .1 .1 .0) (i + 1))
+    (c .before .before .before .before .before .before .before .before .before .divide .ensures .0) (g .ensures)))
 
 pub write-equation-spec : {M : Type 1} → statement M
 write-equation-spec =

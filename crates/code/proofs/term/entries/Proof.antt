@@ -64,7 +64,8 @@ loop-again c =
     let l = c .before .before .loop in
     let x = c .before .before .before .before .before .args in (
       omega arith,
-      writes-turn (now (x .list)) (λ n. getD (entriesOf (x .q) (x .m)) n 0) (l .list) (l .n) _ (l .inv .1) (c .entry .ensures (x .m) (number (c .before))),
+      writes-turn (now (x .list)) (λ n. getD (entriesOf (x .q) (x .m)) n 0) (l .list) (l .n) _ (l .inv .1)
+          (c .entry .ensures (x .m) (number (c .before))),
     )
 
 same-length : tie.Need-same-length Inv-loop μ-loop
@@ -75,7 +76,8 @@ returns c =
     let l = c .before .loop in
     let x = c .before .before .before .before .args in
     let is-k = c .before .before .size .ensures in
-    writes-end (now (x .list)) (λ n. getD (entriesOf (x .q) (x .m)) n 0) (l .list) (l .n) (size (x .q) (x .m)) (l .inv .1) (omega (arith, l .inv .0, is-k))
+    writes-end (now (x .list)) (λ n. getD (entriesOf (x .q) (x .m)) n 0) (l .list) (l .n) (size (x .q) (x .m)) (l .inv .1)
+    (omega (arith, l .inv .0, is-k))
     (omega (arith, c .loop-test .left, is-k))
 
 pub entries-spec : {M : Type 1} → statement M

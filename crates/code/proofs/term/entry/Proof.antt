@@ -12,7 +12,8 @@ use Rattle.code.proofs.term.entry.Statement.{statement}
 use Rattle.code.proofs.term.entry.Tie as tie
 
 -- what y^j weighs
-in-y : (c : tie.After-divide) → let j = c .divide .result .rest in c .before .before .at .result .«weight_y» * j ≡ (c .before .before .before .args .q + 1) * j
+in-y : (c : tie.After-divide) → let j = c .divide .result .rest in c .before .before .at .result .«weight_y» * j
+    ≡ (c .before .before .before .args .q + 1) * j
 in-y c = ap (λ (v : Curve). v .«weight_y» * c .divide .result .rest) (c .before .before .at .ensures)
 
 y-le : (c : tie.After-divide) → c .before .before .at .result .«weight_y» * c .divide .result .rest ≤ c .before .weight .result
@@ -20,7 +21,8 @@ y-le c = omega (arith, in-y c, in-y-le (c .before .before .before .args .q) _ _ 
 
 entry : (c : tie.After-divide) → let w = c .before .weight .result in let j = c .divide .result .rest in
     w - c .before .before .at .result .«weight_y» * j + j ≡ entryOf (c .before .before .before .args .q) w
-entry c = rw (in-y c) (entry-is (c .before .before .before .args .q) (c .before .weight .result) _ _ (c .before .weight .ensures .0) (c .divide .ensures))
+entry c = rw (in-y c) (entry-is (c .before .before .before .args .q) (c .before .weight .result) _ _ (c .before .weight .ensures .0)
+    (c .divide .ensures))
 
 at-requires : tie.Need-at-requires
 at-requires c κs = search needs
@@ -45,7 +47,8 @@ add-result c = omega (arith, entry (c .before .before .before))
 returns : tie.Need-returns
 returns c =
     let s = c .before .before .before .before .before .before in
-    λ m l. entry (c .before .before .before) ∙ sym (entry-number (s .args .q) (curve-pos (s .args .q) (s .pre .0)) m (s .args .n) _ (c .before .before .before .before .weight .ensures) l)
+    λ m l. entry (c .before .before .before)
+    ∙ sym (entry-number (s .args .q) (curve-pos (s .args .q) (s .pre .0)) m (s .args .n) _ (c .before .before .before .before .weight .ensures) l)
 
 pub entry-spec : {M : Type 1} → statement M
 entry-spec =

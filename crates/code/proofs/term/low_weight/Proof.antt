@@ -64,7 +64,8 @@ returns : tie.Need-returns Inv-loop μ-loop
 returns c =
     let l = c .before .loop in
     let s = c .before .before in
-    low-weight (s .args .q) (curve-pos (s .args .q) (s .pre .0)) (l .row) (l .before) (s .args .n) (l .inv .0) (l .inv .2) (l .inv .1) (c .loop-test .left)
+    low-weight (s .args .q) (curve-pos (s .args .q) (s .pre .0)) (l .row) (l .before) (s .args .n) (l .inv .0) (l .inv .2) (l .inv .1)
+    (c .loop-test .left)
 
 pub low-weight-spec : {M : Type 1} → statement M
 low-weight-spec =

@@ -26,14 +26,16 @@ genus c =
     )
 
 -- the row of m, for an m before 2g - 1
-row : (c : tie.After-divide) → let q = c .before .before .before .before .args .q in let a = c .divide .result .whole in (a < q) × (a * (a + 1) ≤ 20) × (c .divide .result .rest < q)
+row : (c : tie.After-divide) → let q = c .before .before .before .before .args .q in let a = c .divide .result .whole in
+    (a < q) × (a * (a + 1) ≤ 20) × (c .divide .result .rest < q)
 row c =
     let s = c .before .before .before .before in
     let q = s .args .q in
     let d = c .divide .ensures in
     let z = sizes q (s .pre) in
     let g = genus (c .before .before) in
-    let l : c .divide .result .whole < q = omega (arith, d .0, low-row q (curve-pos q (s .pre)) (s .args .m) (omega (arith, c .before .if1 .left, g .0, g .1))) in
+    let l : c .divide .result .whole < q =
+    omega (arith, d .0, low-row q (curve-pos q (s .pre)) (s .args .m) (omega (arith, c .before .if1 .left, g .0, g .1))) in
     let few : c .divide .result .whole ≤ 4 = omega (arith, l, z .high) in
     let more : c .divide .result .whole + 1 ≤ 5 = omega arith in
     (l, omega (arith, mul-le-mul few more), omega (arith, d .1, mod-lt (s .args .m) (curve-pos q (s .pre))))
@@ -72,30 +74,36 @@ mul-before : tie.Need-mul-before
 mul-before c = omega (arith, row (c .before .before) .1)
 
 add-result-2 : tie.Need-add-result-2
-add-result-2 c = let r = row (c .before .before .before .before .before) in omega (arith, r, sizes _ (c .before .before .before .before .before .before .before .before .before .pre) .high)
+add-result-2 c = let r = row (c .before .before .before .before .before) in
+    omega (arith, r, sizes _ (c .before .before .before .before .before .before .before .before .before .pre) .high)
 
 add-result-3 : tie.Need-add-result-3
-add-result-3 c = let r = row (c .before .before .before .before .before) in omega (arith, r, sizes _ (c .before .before .before .before .before .before .before .before .before .pre) .high)
+add-result-3 c = let r = row (c .before .before .before .before .before) in
+    omega (arith, r, sizes _ (c .before .before .before .before .before .before .before .before .before .pre) .high)
 
 add-result-4 : tie.Need-add-result-4
-add-result-4 c = let r = row (c .before .before .before .before .before) in omega (arith, r, sizes _ (c .before .before .before .before .before .before .before .before .before .pre) .high)
+add-result-4 c = let r = row (c .before .before .before .before .before) in
+    omega (arith, r, sizes _ (c .before .before .before .before .before .before .before .before .before .pre) .high)
 
 add-result-5 : tie.Need-add-result-5
-add-result-5 c = let r = row (c .before .before .before .before .before) in omega (arith, r, sizes _ (c .before .before .before .before .before .before .before .before .before .pre) .high)
+add-result-5 c = let r = row (c .before .before .before .before .before) in
+    omega (arith, r, sizes _ (c .before .before .before .before .before .before .before .before .before .pre) .high)
 
 returns-2 : tie.Need-returns-2
 returns-2 c =
     let s = c .before .before .before .before .before .before .before .before .before in
     let q = s .args .q in
     let d = c .before .before .before .before .before .divide .ensures in
-    sym (low-size q (curve-pos q (s .pre)) (s .args .m) _ _ (d .0) (d .1) (row (c .before .before .before .before .before) .0) .0 (omega (arith, c .before .if2 .taken)))
+    sym (low-size q (curve-pos q (s .pre)) (s .args .m) _ _ (d .0) (d .1) (row (c .before .before .before .before .before) .0) .0
+    (omega (arith, c .before .if2 .taken)))
 
 returns-3 : tie.Need-returns-3
 returns-3 c =
     let s = c .before .before .before .before .before .before .before .before .before in
     let q = s .args .q in
     let d = c .before .before .before .before .before .divide .ensures in
-    sym (low-size q (curve-pos q (s .pre)) (s .args .m) _ _ (d .0) (d .1) (row (c .before .before .before .before .before) .0) .1 (c .before .if2 .left))
+    sym (low-size q (curve-pos q (s .pre)) (s .args .m) _ _ (d .0) (d .1) (row (c .before .before .before .before .before) .0) .1
+    (c .before .if2 .left))
 
 pub size-spec : {M : Type 1} → statement M
 size-spec =

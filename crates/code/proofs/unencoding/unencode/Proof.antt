@@ -24,11 +24,14 @@ use Rattle.code.proofs.unencoding.unencode.Tie as tie
 
 -- past the checks
 passed : (c : tie.After-enum-told) → let x = c .before .before .before .before .before .args in
-    IsCurve (x .q) × (x .m < x .q * x .q * x .q) × Accepted false (x .q * x .q) (x .q * x .q * x .q) (now (x .word)) (size (x .q) (x .m)) (length (now (x .message)))
-passed c = let x = c .before .before .before .before .before .args in call-done false true (x .q) (x .m) (now (x .word)) (length (now (x .message))) (sym (c .before .before .call .ensures) ∙ c .enum-told .given .1)
+    IsCurve (x .q) × (x .m < x .q * x .q * x .q) × Accepted false (x .q * x .q) (x .q * x .q * x .q) (now (x .word)) (size (x .q) (x .m))
+    (length (now (x .message)))
+passed c = let x = c .before .before .before .before .before .args in call-done false true (x .q) (x .m) (now (x .word)) (length (now (x .message)))
+    (sym (c .before .before .call .ensures) ∙ c .enum-told .given .1)
 
 -- the columns that are lent
-columns-are : (c : tie.After-at) → let x = c .before .before .before .before .before .before .before .args in take (c .at .result .symbols) (c .before .columns .result) ≡ columnsOf (x .q)
+columns-are : (c : tie.After-at) → let x = c .before .before .before .before .before .before .before .args in
+    take (c .at .result .symbols) (c .before .columns .result) ≡ columnsOf (x .q)
 columns-are c =
     let q = c .before .before .before .before .before .before .before .args .q in
     ap (λ (v : Curve). take (v .symbols) (c .before .columns .result)) (c .at .ensures) ∙ ap (take (q * q)) (c .before .columns .ensures)
@@ -69,7 +72,8 @@ read-word-requires : tie.Need-read-word-requires
 read-word-requires c κs =
     let x = c .before .before .before .before .before .before .before .before .before .before .args in
     let p = passed (c .before .before .before .before .before) in
-    subst (λ (l : List ℕ). Readable (x .q) l (x .m) (now (x .word)) (now (x .message))) (sym (columns-are (c .before .before .before))) (readable (x .q) (x .m) (now (x .word)) (now (x .message)) (p .0) (p .1) (p .2))
+    subst (λ (l : List ℕ). Readable (x .q) l (x .m) (now (x .word)) (now (x .message))) (sym (columns-are (c .before .before .before)))
+    (readable (x .q) (x .m) (now (x .word)) (now (x .message)) (p .0) (p .1) (p .2))
 
 same-length : tie.Need-same-length
 same-length c = search needs
@@ -78,8 +82,10 @@ returns-2 : tie.Need-returns-2
 unfolding unencoded
 returns-2 c =
     let x = c .before .before .before .before .before .before .before .before .before .before .before .before .before .args in
-    not-refused _ (now (x .message)) _ (sym (c .before .before .before .before .before .before .before .before .before .before .call .ensures) ∙ c .before .before .before .before .before .before .before .before .enum-told .given .1)
-    ∙ ap (λ (l : List ℕ). readOver (x .q) l (x .m) (now (x .word)) (now (x .message))) (sym (columns-are (c .before .before .before .before .before .before))) ∙ c .before .before .read-word .ensures
+    not-refused _ (now (x .message)) _ (sym (c .before .before .before .before .before .before .before .before .before .before .call .ensures)
+    ∙ c .before .before .before .before .before .before .before .before .enum-told .given .1)
+    ∙ ap (λ (l : List ℕ). readOver (x .q) l (x .m) (now (x .word)) (now (x .message)))
+    (sym (columns-are (c .before .before .before .before .before .before))) ∙ c .before .before .read-word .ensures
 
 pub unencode-spec : {M : Type 1} → statement M
 unencode-spec =

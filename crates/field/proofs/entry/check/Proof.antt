@@ -13,12 +13,14 @@ use Rattle.field.proofs.entry.check.Statement.{statement}
 use Rattle.field.proofs.entry.check.Tie as tie
 
 -- the curve that was found
-found : (c : tie.After-struct-known) → let x = c .before .before .before .before .before .args in IsCurve (x .q) × (c .before .before .curve .given .0 .0 ≡ curveOf (x .q))
+found : (c : tie.After-struct-known) → let x = c .before .before .before .before .before .args in
+    IsCurve (x .q) × (c .before .before .curve .given .0 .0 ≡ curveOf (x .q))
 found c =
     named (c .before .before .before .before .before .args .q) _
     (sym (c .before .before .before .before .of .ensures) ∙ c .before .before .curve .given .1)
 
-symbols : (c : tie.After-struct-known) → let x = c .before .before .before .before .before .args in c .before .before .curve .given .0 .0 .symbols ≡ x .q * x .q
+symbols : (c : tie.After-struct-known) → let x = c .before .before .before .before .before .args in
+    c .before .before .curve .given .0 .0 .symbols ≡ x .q * x .q
 symbols c = ap (λ (v : Curve). v .symbols) (found c .1)
 
 of-requires : tie.Need-of-requires

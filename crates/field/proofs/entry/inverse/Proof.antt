@@ -18,10 +18,12 @@ use Rattle.field.proofs.entry.inverse.Statement.{statement}
 use Rattle.field.proofs.entry.inverse.Tie as tie
 
 -- past the checks of the operand, the test of 0 decides
-past : (c : tie.After-enum-told) → let x = c .before .before .before .args in fieldChecks (x .q) (x .a ∷ []) (refuse (eqb (x .a) 0) InverseOfZero Done) ≡ refuse (eqb (x .a) 0) InverseOfZero Done
+past : (c : tie.After-enum-told) → let x = c .before .before .before .args in
+    fieldChecks (x .q) (x .a ∷ []) (refuse (eqb (x .a) 0) InverseOfZero Done) ≡ refuse (eqb (x .a) 0) InverseOfZero Done
 past c =
     let x = c .before .before .before .args in
-    row-passed (fieldChecks (x .q) (x .a ∷ [])) (operand-follows (x .q) (x .a)) _ (c .before .before .check .ensures ∙ and-zero (x .q) (x .a)) (refuse (eqb (x .a) 0) InverseOfZero Done) (c .enum-told .given .1)
+    row-passed (fieldChecks (x .q) (x .a ∷ [])) (operand-follows (x .q) (x .a)) _ (c .before .before .check .ensures ∙ and-zero (x .q) (x .a))
+    (refuse (eqb (x .a) 0) InverseOfZero Done) (c .enum-told .given .1)
 
 check-requires : tie.Need-check-requires
 check-requires c κs = search needs
@@ -51,7 +53,8 @@ returns-3 : tie.Need-returns-3
 returns-3 c =
     let x = c .before .before .args in
     refused (inverse (bitsOf (x .q)) (x .a))
-    (row-refused (fieldChecks (x .q) (x .a ∷ [])) (operand-follows (x .q) (x .a)) _ (c .before .check .ensures ∙ and-zero (x .q) (x .a)) _ (c .match .keys2))
+    (row-refused (fieldChecks (x .q) (x .a ∷ [])) (operand-follows (x .q) (x .a)) _ (c .before .check .ensures ∙ and-zero (x .q) (x .a)) _
+    (c .match .keys2))
     (c .match .keys2)
 
 pub inverse-spec : {M : Type 1} → statement M

@@ -47,8 +47,10 @@ returns c =
     let e2 = c .before .before .before .before .before .times-z2 .ensures ∙ ap z e1 in
     let e3 = c .before .before .before .before .times-z3 .ensures ∙ ap z e2 in
     let b1 = s .args .b / 2 in
-    let low = is-plus _ _ ∙ ap₂ plus (c .before .before .before .times-bit .ensures) (c .before .before .times-bit2 .ensures ∙ ap (λ (x : ℕ). b1 % 2 * x) e1) in
-    let high = is-plus _ _ ∙ ap₂ plus (c .before .times-bit3 .ensures ∙ ap (λ (x : ℕ). b1 / 2 % 2 * x) e2) (c .times-bit4 .ensures ∙ ap (λ (x : ℕ). b1 / 2 / 2 % 2 * x) e3) in
+    let low = is-plus _ _ ∙ ap₂ plus (c .before .before .before .times-bit .ensures)
+    (c .before .before .times-bit2 .ensures ∙ ap (λ (x : ℕ). b1 % 2 * x) e1) in
+    let high = is-plus _ _ ∙ ap₂ plus (c .before .times-bit3 .ensures ∙ ap (λ (x : ℕ). b1 / 2 % 2 * x) e2)
+    (c .times-bit4 .ensures ∙ ap (λ (x : ℕ). b1 / 2 / 2 % 2 * x) e3) in
     is-plus _ _ ∙ ap₂ plus low high ∙ sym (times-by-bits q (s .args .a) (s .args .b) (s .pre .0) (s .pre .1))
 
 pub times-spec : {M : Type 1} → statement M

@@ -23,7 +23,8 @@ use Rattle.code.proofs.Checks.{order-follows, slices-follow}
 abbrev pub Refused : Outcome → Type 0
 Refused o = OneOf refusals (tagOf the-type o)
 
-pub refused : (checked o : Outcome) (slice : List ℕ) (answer : Answer) → checked ≡ o → eqb (number o) 0 ≡ false → unlessRefused checked slice answer ≡ answered o slice
+pub refused : (checked o : Outcome) (slice : List ℕ) (answer : Answer) → checked ≡ o → eqb (number o) 0 ≡ false
+    → unlessRefused checked slice answer ≡ answered o slice
 refused checked o slice answer e n = ap (λ (x : Outcome). unlessRefused x slice answer) e ∙ ap (λ (b : Bool). cond b answer (answered o slice)) n
 
 pub not-refused : (checked : Outcome) (slice : List ℕ) (answer : Answer) → checked ≡ Done → unlessRefused checked slice answer ≡ answer
@@ -34,7 +35,8 @@ pub order-refused : (q m : ℕ) (o : Outcome) → o ≡ orderChecks q m Done →
 order-refused q m o e r rest = row-refused (orderChecks q m) (order-follows q m) o e rest r
 
 -- what the checks refuse is the entry's answer
-pub entry-refused : (checked o : Outcome) (slice : List ℕ) (answer : Answer) → o ≡ checked → Refused o → unlessRefused checked slice answer ≡ answered o slice
+pub entry-refused : (checked o : Outcome) (slice : List ℕ) (answer : Answer) → o ≡ checked → Refused o
+    → unlessRefused checked slice answer ≡ answered o slice
 entry-refused checked o slice answer e r = refused checked o slice answer (sym e) (not-done o r)
 
 -- an answer that is known by its outcome, packed
@@ -55,7 +57,8 @@ module _ (q m : ℕ) (gaps : Bool) (Q takes : ℕ) (input : List ℕ) (writes ro
       (slices-follow gaps Q takes input writes room S Done refl))
       (λ a. inr (ap (λ (x : Outcome). eqb (number x) 0) (a .1) ∙ a .0)) (order-follows q m (orderChecks q m Done) S refl)
 
-  pub past-checks : (slice v : List ℕ) (answer : Answer) → unlessRefused both slice answer ≡ answered Done v → (both ≡ Done) × (answer ≡ answered Done v)
+  pub past-checks : (slice v : List ℕ) (answer : Answer) → unlessRefused both slice answer ≡ answered Done v
+      → (both ≡ Done) × (answer ≡ answered Done v)
   past-checks slice v answer e =
       ⊎-elim (λ d. (d, sym (not-refused both slice answer d) ∙ e))
       (λ n. absurd (done-or-not both (ap (λ (a : Answer). a .outcome) (sym (refused both both slice answer refl n) ∙ e)) n)) decided

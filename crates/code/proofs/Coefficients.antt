@@ -78,7 +78,8 @@ value-of-message q m c x y =
     value-by-weight q m (messageOf q m c) x y
     ∙ sum-cong (suc m) (λ w. keep (isTerm q w) (fieldOf q .times (coefficientOf q (messageOf q m c) w) (monomial q w x y)))
     (λ w. keep (isTerm q w) (fieldOf q .times (c w) (monomial q w x y)))
-    (λ w l. keep-cong (isTerm q w) λ t. ap (λ (a : ℕ). fieldOf q .times a (monomial q w x y)) (coefficient-of-message q m c w (omega arith) (T-true (isTerm q w) t)))
+    (λ w l. keep-cong (isTerm q w) λ t. ap (λ (a : ℕ). fieldOf q .times a (monomial q w x y))
+    (coefficient-of-message q m c w (omega arith) (T-true (isTerm q w) t)))
 
 pub vector-message : (q m Q : ℕ) (c : ℕ → ℕ) → ((w : ℕ) → c w < Q) → Vector Q (size q m) (messageOf q m c)
 unfolding messageOf

@@ -78,7 +78,8 @@ module _ (q : ℕ) (columns : List ℕ) (m : ℕ) where
     fits-more n v h k =
         record { at = λ p l. elim (ℕ-discrete p n) [ yes e ↦ rw e k | no d ↦ h .at p (omega arith) ] }
 
-    pub collected-none : (work : List ℕ) → WellFormed (fieldOf q) 64 (size q m) work → ((i : ℕ) → entry work i ≡ 0) → Collected q columns m word work 0 0
+    pub collected-none : (work : List ℕ) → WellFormed (fieldOf q) 64 (size q m) work → ((i : ℕ) → entry work i ≡ 0)
+        → Collected q columns m word work 0 0
     collected-none work f zeros =
         record {
           formed = f;
@@ -86,7 +87,8 @@ module _ (q : ℕ) (columns : List ℕ) (m : ℕ) where
           same = λ v. (λ h. blank-satisfied (fieldOf q) 64 (size q m) work zeros v, λ h. record { at = λ p l. absurd (omega arith) });
         }
 
-    pub collected-more : (work work′ : List ℕ) (n r r′ : ℕ) → Collected q columns m word work n r → Taken q columns m n (getD word n 0) r work work′ r′
+    pub collected-more : (work work′ : List ℕ) (n r r′ : ℕ) → Collected q columns m word work n r
+        → Taken q columns m n (getD word n 0) r work work′ r′
         → Collected q columns m word work′ (n + 1) r′
     collected-more work work′ n r r′ h t =
         record {
@@ -102,17 +104,20 @@ module _ (q : ℕ) (columns : List ℕ) (m : ℕ) where
         → Advanced q columns m n (getD word n 0) r work work′ true r′ → Ended q columns m word work′ true r″
     ended-clash work work′ n r r′ r″ l h a v f = a v (h .same v .0 (fits-fewer n (length word) v (omega arith) f)) (f .at n l)
 
-    pub ended-full : (work : List ℕ) (n r : ℕ) → n ≤ length word → Collected q columns m word work n r → r ≡ size q m → Ended q columns m word work false r
+    pub ended-full : (work : List ℕ) (n r : ℕ) → n ≤ length word → Collected q columns m word work n r → r ≡ size q m
+        → Ended q columns m word work false r
     ended-full work n r l h e = record { place = n; within = l; collected = h; whole = λ d. absurd (d e) }
 
-    pub ended-all : (work : List ℕ) (n r : ℕ) → n ≤ length word → length word ≤ n → Collected q columns m word work n r → Ended q columns m word work false r
+    pub ended-all : (work : List ℕ) (n r : ℕ) → n ≤ length word → length word ≤ n → Collected q columns m word work n r
+        → Ended q columns m word work false r
     ended-all work n r l k h = record { place = n; within = l; collected = h; whole = λ d. omega arith }
 
 -- ---- a complete system
 
 pub solution-below : (q m : ℕ) (work message : List ℕ) → Solves (fieldOf q) (size q m) (flat 64 (size q m) work) message → length message ≡ size q m
     → Below (fieldOf q .size) message
-solution-below q m work message h long = vector-below (fieldOf q .size) (size q m) message (zero-lt (fieldOf q)) (record { len = long; small = h .symbols })
+solution-below q m work message h long = vector-below (fieldOf q .size) (size q m) message (zero-lt (fieldOf q))
+    (record { len = long; small = h .symbols })
 
 -- the solution that was copied
 pub copied : (k : ℕ) (solution rest message : List ℕ) → length solution ≡ k → length message ≡ k → stored k (solution ++ rest) message ≡ solution

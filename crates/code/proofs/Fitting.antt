@@ -26,10 +26,11 @@ module _ (word : List ℕ → List ℕ) (broken v : List ℕ) where
   unfolding fits
   of-fits t =
       record {
-        at = λ p l n. elim (of-or (eqb (getD broken p 0) 255) (eqb (getD (word v) p 0) (getD broken p 0)) (of-every (length broken) agrees-at t p l)) [
-          | inl x ↦ absurd (n (eqb→eq (getD broken p 0) 255 x))
-          | inr x ↦ eqb→eq (getD (word v) p 0) (getD broken p 0) x
-        ];
+        at = λ p l n. elim (of-or (eqb (getD broken p 0) 255) (eqb (getD (word v) p 0) (getD broken p 0))
+            (of-every (length broken) agrees-at t p l)) [
+              | inl x ↦ absurd (n (eqb→eq (getD broken p 0) 255 x))
+              | inr x ↦ eqb→eq (getD (word v) p 0) (getD broken p 0) x
+            ];
       }
 
   pub to-fits : Fits word broken v → T (fits word broken v)
@@ -37,7 +38,8 @@ module _ (word : List ℕ → List ℕ) (broken v : List ℕ) where
   to-fits h =
       to-every (length broken) agrees-at (λ p l. elim (ℕ-discrete (getD broken p 0) 255) [
         | yes e ↦ or-left (eqb (getD broken p 0) 255) (eqb (getD (word v) p 0) (getD broken p 0)) (rw (eq-eqb (getD broken p 0) 255 e) tt)
-        | no n ↦ or-right (eqb (getD broken p 0) 255) (eqb (getD (word v) p 0) (getD broken p 0)) (rw (eq-eqb (getD (word v) p 0) (getD broken p 0) (h .at p l n)) tt)
+        | no n ↦ or-right (eqb (getD broken p 0) 255) (eqb (getD (word v) p 0) (getD broken p 0))
+            (rw (eq-eqb (getD (word v) p 0) (getD broken p 0) (h .at p l n)) tt)
       ])
 
 -- ---- the search for a place where two words differ
@@ -56,7 +58,8 @@ module _ (broken whole : List ℕ) where
       T-true (every (length broken) place-agrees)
       (to-every (length broken) place-agrees (λ p k. elim (ℕ-discrete (getD broken p 0) 255) [
         | yes e ↦ or-left (eqb (getD broken p 0) 255) (eqb (getD whole p 0) (getD broken p 0)) (rw (eq-eqb (getD broken p 0) 255 e) tt)
-        | no d ↦ or-right (eqb (getD broken p 0) 255) (eqb (getD whole p 0) (getD broken p 0)) (rw (eq-eqb (getD whole p 0) (getD broken p 0) (h p (omega arith) d)) tt)
+        | no d ↦ or-right (eqb (getD broken p 0) 255) (eqb (getD whole p 0) (getD broken p 0))
+            (rw (eq-eqb (getD whole p 0) (getD broken p 0) (h p (omega arith) d)) tt)
       ]))
 
   pub agrees-not : (p : ℕ) → p < length broken → (getD broken p 0 ≡ 255 → ⊥) → (getD whole p 0 ≡ getD broken p 0 → ⊥) → agrees broken whole ≡ false

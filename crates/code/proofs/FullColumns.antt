@@ -46,7 +46,8 @@ full-points q curve =
     sym (length-word q (columnsOf q) 0 []) ∙ word-length q 0 curve [] (columnsOf q) (full-columns q curve .small) ∙ full-places q curve
 
 -- the values of an accepted message or whole word are symbols
-pub accepted-symbols : (q : ℕ) → IsCurve q → (takes : ℕ) (input : List ℕ) (writes room : ℕ) → Accepted false (q * q) takes input writes room → Below (fieldOf q .size) input
+pub accepted-symbols : (q : ℕ) → IsCurve q → (takes : ℕ) (input : List ℕ) (writes room : ℕ) → Accepted false (q * q) takes input writes room
+    → Below (fieldOf q .size) input
 accepted-symbols q curve takes input writes room h i = elim (decLt i (length input)) [
   | yes l ↦ omega (arith, symbol-of-good (q * q) (getD input i 0) (h .good i l), sizes q curve .size)
   | no d ↦ rw (List·getD-eq-default input 0 {n = i} (omega arith)) (zero-lt (fieldOf q))

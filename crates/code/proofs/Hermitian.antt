@@ -124,15 +124,25 @@ module _ (F : Field) (q : ℕ) (two-le-q : 1 < q) (n : ℕ) (px py : ℕ → ℕ
 
   unfoldable pub hermitian : OrderDomain F n
   hermitian =
-      record { isWeight = isTerm q; term = term; term-lt = term-lt; weight-add = λ u v hu hv. leads u v hu hv .0; leading = λ u v hu hv. leads u v hu hv .1 }
+      record {
+        isWeight = isTerm q;
+        term = term;
+        term-lt = term-lt;
+        weight-add = λ u v hu hv. leads u v hu hv .0;
+        leading =
+            λ u v hu hv. leads u v hu hv .1;
+      }
 
   -- if the points are different and their coordinates are elements, x and y tell them apart
   module _ (xl : (t : ℕ) → px t < size) (yl : (t : ℕ) → py t < size)
       (different : (s t : ℕ) → s < n → t < n → px s ≡ px t → py s ≡ py t → s ≡ t) where
     powers-polynomial : (i j : ℕ) → j < q → Polynomial hermitian (powers i j)
     unfolding hermitian
-    powers-polynomial i j l =
-        (suc (weightOfPowers q i j), span-same (span-single (weightOfPowers q i j) (omega arith, is-weight i l) (term-lt (weightOfPowers q i j))) λ t h. sym (term-is i l t))
+    powers-polynomial i j l = (
+      suc (weightOfPowers q i j),
+      span-same (span-single (weightOfPowers q i j) (omega arith, is-weight i l)
+          (term-lt (weightOfPowers q i j))) λ t h. sym (term-is i l t),
+    )
 
     one-polynomial : Polynomial hermitian (λ t. 1)
     unfolding powers
@@ -154,7 +164,8 @@ module _ (F : Field) (q : ℕ) (two-le-q : 1 < q) (n : ℕ) (px py : ℕ → ℕ
 
     -- f - a, for an element a
     minus : {f : ℕ → ℕ} → Polynomial hermitian f → (a : ℕ) → a < size → Polynomial hermitian (λ t. plus (f t) a)
-    minus {f} p a l = polynomial-same hermitian (polynomial-plus hermitian p (polynomial-scale hermitian a one-polynomial)) λ t. rw (times-one-right F a l)
+    minus {f} p a l = polynomial-same hermitian (polynomial-plus hermitian p (polynomial-scale hermitian a one-polynomial)) λ t. rw
+        (times-one-right F a l)
 
     pub indicators : (p : ℕ) → p < n → Polynomial hermitian (λ t. keep (eqb t p) 1)
     indicators p pl = indicator hermitian one-polynomial p pl λ t tl ne. go t tl ne (ℕ-discrete (px p) (px t))

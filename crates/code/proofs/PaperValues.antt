@@ -152,7 +152,8 @@ recovered-I =
     ap (λ (l : List (List ℕ)). numbers (unlessRefused (recoverChecks 2 7 wordI roomI) roomI (told (read 4 l) roomI))) none-listed-I
 
 values-computed : map (λ (r : Row). r .ours) computed ≡ map (λ (r : Row). r .paper) computed
-unfolding recovered told reading read fitting fits agrees every filter all below flatMap exponent climb wordOf valueAt pointsOn ysOf passing power sum times inverse combine timesZ plus orderChecks firstBad sliceChecks
+unfolding recovered told reading read fitting fits agrees every filter all below flatMap exponent climb wordOf valueAt pointsOn ysOf
+    passing power sum times inverse combine timesZ plus orderChecks firstBad sliceChecks
 values-computed = refl
 
 -- THE THEOREM of all rows

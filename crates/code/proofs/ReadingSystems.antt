@@ -32,7 +32,8 @@ module _ (q : ℕ) (columns : List ℕ) (m : ℕ) (word : List ℕ) (h : BrokenO
   below-fits : (v : List ℕ) → FitsBelow q columns m word (length word) (entry v) → Fits (wordOf q columns m) word v
   below-fits v f = record { at = λ p l d. word-dot q columns (h .over) m v p (omega (arith, h .long)) ∙ f .at p l d }
 
-  pub clash-nothing : (work : List ℕ) (r : ℕ) → Ended q columns m word work true r → reading (fieldOf q .size) (size q m) (wordOf q columns m) word ≡ nothing
+  pub clash-nothing : (work : List ℕ) (r : ℕ) → Ended q columns m word work true r
+      → reading (fieldOf q .size) (size q m) (wordOf q columns m) word ≡ nothing
   clash-nothing work r e =
       reading-nothing (fieldOf q .size) (size q m) (wordOf q columns m) word (fieldOf q .two-le)
       (λ v vector f. e (entry v) (fits-below (length word) (omega arith) v f))
@@ -45,11 +46,17 @@ module _ (q : ℕ) (columns : List ℕ) (m : ℕ) (word : List ℕ) (h : BrokenO
     pub missing-several : r < size q m → reading (fieldOf q .size) (size q m) (wordOf q columns m) word ≡ several (size q m - r)
     missing-several l =
         reading-several (fieldOf q .size) (size q m) (wordOf q columns m) word (fieldOf q .two-le) (size q m - r) (omega arith)
-        (solutions-by (fieldOf q) (flat 64 (size q m) work) (size q m) (triangular (fieldOf q) 64 (size q m) work (g .collected .formed)) (fits (wordOf q columns m) word)
-        (λ v vector. (λ t. satisfies v (of-fits (wordOf q columns m) word v t), λ s. to-fits (wordOf q columns m) word v (below-fits v (all-places v s))))
+        (solutions-by (fieldOf q) (flat 64 (size q m) work) (size q m) (triangular (fieldOf q) 64 (size q m) work (g .collected .formed))
+        (fits (wordOf q columns m) word)
+        (λ v vector. (
+          λ t. satisfies v (of-fits (wordOf q columns m) word v t),
+          λ s. to-fits (wordOf q columns m) word v
+              (below-fits v (all-places v s)),
+        ))
         ∙ ap (λ (x : ℕ). fieldOf q .size ^ (size q m - x)) (sym (g .collected .ranked)))
       where
-        all-places : (v : List ℕ) → Satisfies (fieldOf q) (size q m) (flat 64 (size q m) work) (entry v) → FitsBelow q columns m word (length word) (entry v)
+        all-places : (v : List ℕ) → Satisfies (fieldOf q) (size q m) (flat 64 (size q m) work) (entry v)
+            → FitsBelow q columns m word (length word) (entry v)
         all-places v s =
             let f = g .collected .same (entry v) .1 s in
             let e : g .place ≡ length word = g .whole (λ e. omega arith) in

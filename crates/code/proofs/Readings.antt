@@ -97,7 +97,8 @@ module _ (Q k : ℕ) (word : List ℕ → List ℕ) (broken : List ℕ) where
   fitting-list =
       record {
         distinct = nodup-filter (fits word broken) (all Q k) (nodup-all Q k);
-        sound = λ v m. let w = of-mem-filter (fits word broken) v (all Q k) m in record { vector = of-mem-all Q k v (w .0); fits = of-fits word broken v (w .1) };
+        sound = λ v m. let w = of-mem-filter (fits word broken) v (all Q k) m in
+            record { vector = of-mem-all Q k v (w .0); fits = of-fits word broken v (w .1) };
         whole = λ v h. mem-filter (fits word broken) v (all Q k) (mem-all Q k v (h .vector)) (to-fits word broken v (h .fits));
       }
 

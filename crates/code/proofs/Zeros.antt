@@ -79,7 +79,8 @@ module _ (q : ℕ) (two-le-q : 1 < q) (ps : List (ℕ × ℕ)) where
 
   on-curve : ((p : ℕ × ℕ) → Mem p ps → onCurve q (p .0) (p .1) ≡ true) → (t : ℕ) → t < length ps
       → plus (power (fieldOf q) (yAt t) q) (yAt t) ≡ power (fieldOf q) (xAt t) (suc q)
-  on-curve h t l = eqb-true (plus (power (fieldOf q) (yAt t) q) (yAt t)) (power (fieldOf q) (xAt t) (suc q)) (h (getD ps t (0, 0)) (mem-getD ps (0, 0) t l))
+  on-curve h t l = eqb-true (plus (power (fieldOf q) (yAt t) q) (yAt t)) (power (fieldOf q) (xAt t) (suc q))
+      (h (getD ps t (0, 0)) (mem-getD ps (0, 0) t l))
 
   -- the values of a polynomial of order u times those of one of order v are the values of one of order u + v
   pub product-message : ((p : ℕ × ℕ) → Mem p ps → onCurve q (p .0) (p .1) ≡ true) → (u v : ℕ) (a b : List ℕ)
@@ -149,6 +150,7 @@ agree q curve columns dc symbols m v w hv hw places dp l same =
     total-zero : (i : ℕ) → getD total i 0 ≡ 0
     total-zero =
         zeros q (sizes q curve .low) (map at places) m total
-        (vector-tabulate (fieldOf q .size) (size q m) (λ i. plus (getD v i 0) (getD w i 0)) λ i il. fieldOf q .plus-lt _ _ (hv .small i il) (hw .small i il))
+        (vector-tabulate (fieldOf q .size) (size q m) (λ i. plus (getD v i 0) (getD w i 0)) λ i il. fieldOf q .plus-lt _ _ (hv .small i il)
+        (hw .small i il))
         (nodup-map at places (λ a b ha hb. nodup-getD (pointsOn q columns) (0, 0) (nodup-points q columns dc) a b (same a ha .0) (same b hb .0)) dp)
         (omega (arith, length-map places at)) (each (IsPoint q) point) (each (λ p. valueAt q m total (p .0) (p .1) ≡ 0) vanishes)

@@ -1,13 +1,12 @@
 -- The grid law: the sum over the terms is the sum over the grid's entries; and so the value at a point is found in two stages.
 -- Assumes nothing.
-use mathlib.Core.Bool.{true, false}
-use mathlib.Core.Logic.{_⊎_, inl, inr}
+use mathlib.Core.Bool.{true}
+use mathlib.Core.Logic.{inl, inr}
 use mathlib.Core.List.{List, [], _∷_, _++_}
 use mathlib.Core.Path.{_≡_, refl, sym, ap, ap₂, _∙_}
 use Prim.Native.Nat.{ℕ, zero, suc, _+_, _-_, _*_, _/_, _%_, _≤_, _<_}
-use native.Mathlib.Nat.{mul-suc, mul-zero, add-suc, add-zero}
 use native.Mathlib.Omega.{arith}
-use lib.ListN.{length, getD, set, List·getD-append}
+use lib.ListN.{getD, List·getD-append}
 use lib.Seq.{getD-append-seam}
 use Rattle.field.specs.Plus.{plus}
 use Rattle.field.specs.Power.{power}
@@ -18,10 +17,10 @@ use Rattle.field.proofs.Sums.{sum-suc, sum-cong, sum-zeros, sum-blocks, sum-set
 use Rattle.poly.specs.Polynomials.{value}
 use Rattle.poly.proofs.Bools.{true-or-false}
 use Rattle.code.specs.Passing.{passing}
-use Rattle.code.specs.Terms.{isTerm, xPower, yPower, weights, size}
+use Rattle.code.specs.Terms.{isTerm}
 use Rattle.code.specs.Word.{monomial, valueAt}
-use Rattle.code.specs.Grid.{weightOf, entryOf, rank, scatterBelow, scatter}
-use Rattle.code.proofs.Passing.{passing-true, passing-false, place-true, place-false}
+use Rattle.code.specs.Grid.{entryOf, rank, scatterBelow, scatter}
+use Rattle.code.proofs.Passing.{passing-true, passing-false, place-true}
 use Rattle.code.proofs.Weights.{quotient, remainder, entry-x, entry-y, weight-of-entry}
 use Rattle.code.proofs.GridEntries.{scatter-term, scatter-none, length-scatter, scatter-above}
 

@@ -1,7 +1,6 @@
 -- The terms x^i y^j with j < q and weight q i + (q + 1) j at most m are those of `weights q m`, each once, and how many they are.
 -- Assumes nothing.
-use mathlib.Core.Bool.{Bool, true, false}
-use mathlib.Core.List.{List}
+use mathlib.Core.Bool.{true, false}
 use mathlib.Core.Path.{_≡_, refl, sym, ap, ap₂, _∙_}
 use Prim.Native.Nat.{ℕ, zero, suc, _+_, _-_, _*_, _/_, _%_, _≤_, _<_}
 use native.Mathlib.Decide.{le-ind, decLt}
@@ -10,7 +9,7 @@ use native.Mathlib.Nat.{div-eq-of-lt, add-zero, le-div-iff-mul-le, mul-comm, mul
 use native.Mathlib.Numerals.{add-one}
 use native.Mathlib.Omega.{arith}
 use borrow.Author.Tests.{le-leb, lt-leb, leb-true}
-use lib.ListN.{length, getD}
+use lib.ListN.{getD}
 use Rattle.field.specs.Curve.{IsCurve, curveOf}
 use Rattle.field.proofs.Curves.{sizes}
 use Rattle.code.specs.Passing.{passing}
@@ -100,9 +99,6 @@ module _ (q : ℕ) (pos : 0 < q) where
   large-term w l =
       le-leb (w % q) (w / q)
       (omega (arith, mod-lt w pos, le-div-iff-mul-le {x = q - 1} {y = w} pos .1 (rw (mul-comm (q - 1) q) l)))
-
-  pub size-suc : (m : ℕ) → q * (q - 1) ≤ suc m → size q (suc m) ≡ suc (size q m)
-  size-suc m l = place-true (isTerm q) (suc m) (large-term (suc m) l)
 
   -- row a, of the numbers from q a to q a + q - 1, begins with a + 1 weights while a is below q, and has no others
   row-term : (a b : ℕ) → b ≤ a → b < q → isTerm q (q * a + b) ≡ true

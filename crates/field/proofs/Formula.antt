@@ -1,6 +1,6 @@
 -- The product as the code works it out: z times a number by a comparison, and the four bits of the second factor one by one.
 -- Assumes nothing.
-use mathlib.Core.Path.{_≡_, sym, ap, ap₂, _∙_}
+use mathlib.Core.Path.{_≡_, ap, ap₂, _∙_}
 use Prim.Native.Nat.{ℕ, _+_, _-_, _*_, _/_, _%_, _^_, _≤_, _<_}
 use native.Mathlib.Nat.{zero-mul, mod-eq-of-lt, div-eq-of-lt, add-mul-div-right, mul-add-mod-self-right}
 use native.Mathlib.Omega.{arith}

@@ -11,8 +11,8 @@ use lib.Seq.{getD-set-same, getD-set-other}
 use Rattle.field.specs.Plus.{plus}
 use Rattle.field.specs.Field.{Field}
 use Rattle.field.specs.Sum.{sum}
-use Rattle.field.proofs.Plus.{plus-assoc, plus-comm, plus-left-comm, plus-self, plus-zero, zero-plus, plus-exchange, plus-solve}
-use Rattle.field.proofs.FieldLaws.{zero-lt, times-zero, plus-times}
+use Rattle.field.proofs.Plus.{plus-assoc, plus-comm, plus-self, plus-zero, zero-plus, plus-exchange, plus-solve}
+use Rattle.field.proofs.FieldLaws.{zero-lt, times-zero}
 
 -- ---- sums of any numbers
 

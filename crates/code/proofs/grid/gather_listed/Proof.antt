@@ -1,11 +1,10 @@
 -- `code::grid::gather_listed` meets its contract: the coefficients at the first n entries are gathered.
 -- Assumes nothing.
-use mathlib.Core.Path.{_≡_, refl, sym, ap, _∙_}
-use Prim.Native.Nat.{ℕ, _+_, _-_, _≤_, _<_}
+use mathlib.Core.Path.{_≡_, refl, ap, _∙_}
+use Prim.Native.Nat.{_-_, _≤_}
 use native.Mathlib.Omega.{arith}
-use borrow.Author.Needs.{needs}
 use denote.Ref.{now}
-use lib.ListN.{length, getD}
+use lib.ListN.{length}
 use Rattle.poly.specs.Ranges.{writes}
 use Rattle.poly.proofs.Writes.{length-writes, writes-turn, writes-end}
 use Rattle.code.specs.Grid.{listed}

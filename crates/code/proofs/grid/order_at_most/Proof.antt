@@ -2,14 +2,13 @@
 -- Assumes nothing.
 use mathlib.Core.Bool.{true}
 use mathlib.Core.Logic.{⊎-elim}
-use mathlib.Core.Path.{_≡_, sym, ap, _∙_, subst}
-use Prim.Native.Nat.{ℕ, _+_, _-_, _*_, _≤_, _<_}
+use mathlib.Core.Path.{_≡_, sym, ap, subst}
+use Prim.Native.Nat.{ℕ, _+_, _-_, _*_, _≤_}
 use native.Mathlib.Omega.{arith}
 use borrow.Author.Needs.{needs}
 use denote.Ref.{now}
 use lib.ListN.{length}
 use Rattle.field.specs.declared.curve.Curve.{Curve}
-use Rattle.field.proofs.Curves.{sizes}
 use Rattle.poly.specs.Ranges.{part}
 use Rattle.poly.proofs.Parts.{length-part}
 use Rattle.code.specs.Grid.{orderAtMost}

@@ -1,13 +1,12 @@
 -- `code::recovery::agrees` meets its contract: the places below p agree.
 -- Assumes nothing.
 use mathlib.Core.Logic.{⊎-elim}
-use mathlib.Core.Path.{_≡_, sym}
+use mathlib.Core.Path.{sym}
 use Prim.Native.Nat.{_-_, _≤_}
-use native.Mathlib.Decide.{ℕ-discrete}
 use native.Mathlib.Omega.{arith}
 use borrow.Author.Count.{below-more}
 use denote.Ref.{now}
-use lib.ListN.{length, getD}
+use lib.ListN.{length}
 use Rattle.code.proofs.Fitting.{AgreesBelow, agrees-all, agrees-not}
 use Rattle.code.proofs.recovery.agrees.Statement.{statement}
 use Rattle.code.proofs.recovery.agrees.Tie as tie

@@ -1,15 +1,13 @@
 -- `code::recovery::bring_places` meets its contract: the symbols below p are collected.
 -- Assumes nothing.
-use mathlib.Core.List.{List}
 use mathlib.Core.Path.{_≡_, refl, sym, ap, _∙_, subst}
-use Prim.Native.Nat.{ℕ, _+_, _-_, _*_, _≤_, _<_}
+use Prim.Native.Nat.{_-_, _≤_}
 use native.Mathlib.Omega.{arith}
-use borrow.Author.Needs.{needs}
 use denote.Ref.{now}
 use lib.ListN.{length, getD}
 use Rattle.field.proofs.Fields.{fieldOf}
 use Rattle.poly.proofs.Solutions.{rank-le}
-use Rattle.poly.specs.Systems.{flat, WellFormed}
+use Rattle.poly.specs.Systems.{flat}
 use Rattle.code.specs.Terms.{size}
 use Rattle.code.specs.Recovering.{Collected, Advanced, Ended}
 use Rattle.code.proofs.GridEntries.{length-entries}

@@ -1,11 +1,10 @@
 -- `code::recovery::collect` meets its contract: the places are brought in with the list of the terms' entries.
 -- Assumes nothing.
-use mathlib.Core.Path.{_≡_, sym, ap, _∙_}
-use Prim.Native.Nat.{ℕ, _*_, _≤_, _<_}
+use mathlib.Core.Path.{sym}
 use native.Mathlib.Nat.{mul-le-mul-left}
 use native.Mathlib.Omega.{arith}
 use borrow.Author.Needs.{needs}
-use lib.ListN.{length, replicate}
+use lib.ListN.{replicate}
 use lib.Seq.{length-take-le}
 use Rattle.field.proofs.Curves.{sizes}
 use Rattle.code.proofs.GridEntries.{entries-taken}

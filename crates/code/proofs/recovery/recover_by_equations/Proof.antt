@@ -1,11 +1,10 @@
 -- `code::recovery::recover_by_equations` meets its contract: each way out has what the collected equations say.
 -- Assumes nothing.
 use mathlib.Core.Bool.{Bool, true, false}
-use mathlib.Core.Path.{_≡_, refl, sym, ap, _∙_, subst}
-use Prim.Native.Nat.{ℕ, _-_, _<_}
+use mathlib.Core.Path.{_≡_, sym, ap, _∙_, subst}
+use Prim.Native.Nat.{ℕ, _-_}
 use native.Mathlib.Omega.{arith}
 use denote.Ref.{now}
-use lib.ListN.{length, replicate}
 use Rattle.field.specs.declared.outcome.Outcome.the-variants.{NoMessage, Several}
 use Rattle.field.proofs.Fields.{fieldOf}
 use Rattle.poly.specs.Systems.{flat}

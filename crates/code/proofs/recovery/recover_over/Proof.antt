@@ -1,7 +1,6 @@
 -- `code::recovery::recover_over` meets its contract: what recovery says of a whole word is what unencoding says.
 -- Assumes nothing.
 use mathlib.Core.Bool.{false}
-use mathlib.Core.List.{List}
 use mathlib.Core.Path.{_≡_, refl, sym, ap, _∙_, subst}
 use Prim.Native.Nat.{ℕ, _*_}
 use native.Mathlib.Omega.{arith}

@@ -1,11 +1,9 @@
 -- `code::recovery::settle` meets its contract: the solution is encoded again and compared.
 -- Assumes nothing.
-use mathlib.Core.List.{List}
-use mathlib.Core.Path.{_≡_, sym, ap, _∙_, subst}
+use mathlib.Core.Path.{sym, ap, _∙_, subst}
 use Prim.Native.Nat.{ℕ}
 use native.Mathlib.Omega.{arith}
 use denote.Ref.{now}
-use lib.ListN.{length}
 use Rattle.field.proofs.Fields.{fieldOf}
 use Rattle.poly.specs.Systems.{flat, Full, WellFormed, Solves}
 use Rattle.code.specs.Terms.{size}

@@ -1,8 +1,7 @@
 -- `code::term::divide` meets its contract: the divisor is the q of the curve.
 -- Assumes nothing.
 use mathlib.Core.Logic.{⊎-elim}
-use mathlib.Core.Path.{_≡_, refl}
-use Prim.Native.Nat.{ℕ}
+use mathlib.Core.Path.{refl}
 use Rattle.code.proofs.term.divide.Statement.{statement}
 use Rattle.code.proofs.term.divide.Tie as tie
 

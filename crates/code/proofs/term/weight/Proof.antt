@@ -1,10 +1,9 @@
 -- `code::term::weight` meets its contract: from term g on the weight is g more than the number.
 -- Assumes nothing.
-use mathlib.Core.Path.{_≡_, sym, ap, _∙_, subst}
-use Prim.Native.Nat.{ℕ, _+_, _*_, _≤_, _<_}
+use mathlib.Core.Path.{sym, ap, subst}
+use Prim.Native.Nat.{ℕ, _+_}
 use native.Mathlib.Omega.{arith}
 use borrow.Author.Needs.{needs}
-use Rattle.field.specs.Curve.{curveOf}
 use Rattle.field.specs.declared.curve.Curve.{Curve}
 use Rattle.code.specs.Grid.{WeightOfTerm}
 use Rattle.code.proofs.Weights.{curve-pos, genus-small, high-weight}

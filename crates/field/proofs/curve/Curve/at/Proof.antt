@@ -1,7 +1,6 @@
 -- `field::curve::Curve::at` meets its contract: each arm has the numbers of its curve.
 -- Assumes nothing.
 use mathlib.Core.Logic.{⊎-elim}
-use mathlib.Core.Path.{refl}
 use Rattle.field.proofs.curve.Curve.at.Statement.{statement}
 use Rattle.field.proofs.curve.Curve.at.Tie as tie
 

@@ -7,6 +7,7 @@
 
 #![forbid(unsafe_code)]
 
+pub mod arithmetic;
 pub mod blocks;
 pub mod case_record;
 mod checks;

@@ -22,3 +22,4 @@ pub mod page;
 pub mod record_sample;
 pub mod sample;
 pub mod session;
+pub mod worked_session;

@@ -33,7 +33,8 @@
  * (measured and not proved: most is 5401 bytes, to recover a whole word); from
  * the platform it needs memcpy and memset.
  *
- * Linking. `rt staticlib code` writes target/staticlib/libcode.a (x86-64).
+ * Linking. `rt staticlib hermitian` writes target/staticlib/libhermitian.a, for
+ * x86-64.
  */
 #ifndef HERMITIAN_H
 #define HERMITIAN_H

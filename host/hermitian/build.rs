@@ -1,18 +1,18 @@
-//! Links the proved library, which `rt staticlib code` writes.
+//! Links the proved library, which `rt staticlib hermitian` writes.
 
 use std::path::{Path, PathBuf};
 use std::process::exit;
 
 fn main() {
     let folder = archive_folder();
-    let archive = folder.join("libcode.a");
+    let archive = folder.join("libhermitian.a");
     println!("cargo:rerun-if-changed={}", archive.display());
     if !archive.is_file() {
         explain_missing();
         exit(1);
     }
     println!("cargo:rustc-link-search=native={}", folder.display());
-    println!("cargo:rustc-link-lib=static=code");
+    println!("cargo:rustc-link-lib=static=hermitian");
 }
 
 /// target/staticlib of the repository, two folders above this crate.
@@ -22,6 +22,6 @@ fn archive_folder() -> PathBuf {
 }
 
 fn explain_missing() {
-    eprintln!("error: the proved library target/staticlib/libcode.a is missing.");
-    eprintln!("Build it first: run `rt staticlib code` in the top folder of the repository.");
+    eprintln!("error: the proved library target/staticlib/libhermitian.a is missing.");
+    eprintln!("Build it first: run `rt staticlib hermitian` in the top folder of the repository.");
 }

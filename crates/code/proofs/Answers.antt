@@ -10,13 +10,13 @@ use lib.Dec.{eqb}
 use lib.ListN.{length}
 use types.Run.{OneOf}
 use denote.Enum.Declared.{tagOf}
-use Rattle.field.specs.Outcomes.{number, packed}
+use Rattle.field.specs.Outcomes.{number}
 use Rattle.field.specs.declared.outcome.Outcome.{Outcome}
 use Rattle.field.specs.declared.outcome.Outcome.the-variants.{Done}
 use Rattle.field.proofs.Outcomes.{refusals, not-done, done-or-not, row-refused}
 use Rattle.field.proofs.outcome.Outcome.{the-type}
 use Rattle.code.specs.Checks.{orderChecks, sliceChecks}
-use Rattle.code.specs.Answers.{Answer, answered, unlessRefused, Packed}
+use Rattle.code.specs.Answers.{Answer, answered, unlessRefused}
 use Rattle.code.proofs.Checks.{order-follows, slices-follow}
 
 -- a refusal, as the arm that returns it is told of it
@@ -38,11 +38,6 @@ order-refused q m o e r rest = row-refused (orderChecks q m) (order-follows q m)
 pub entry-refused : (checked o : Outcome) (slice : List ℕ) (answer : Answer) → o ≡ checked → Refused o
     → unlessRefused checked slice answer ≡ answered o slice
 entry-refused checked o slice answer e r = refused checked o slice answer (sym e) (not-done o r)
-
--- an answer that is known by its outcome, packed
-pub to-packed : (answer : Answer) (o : Outcome) (slice : List ℕ) (returned : ℕ) → answer ≡ answered o slice → returned ≡ packed o
-    → Packed answer returned slice
-to-packed answer o slice returned is e = rw is (e, refl)
 
 -- a call over both rows of checks that answers Done is past them
 module _ (q m : ℕ) (gaps : Bool) (Q takes : ℕ) (input : List ℕ) (writes room : ℕ) where

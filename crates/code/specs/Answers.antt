@@ -1,10 +1,9 @@
 -- What a call answers, and what the slice lent to it then holds.
 use mathlib.Core.Bool.{cond}
 use mathlib.Core.List.{List}
-use mathlib.Core.Path.{_≡_}
 use Prim.Native.Nat.{ℕ}
 use lib.Dec.{eqb}
-use Rattle.field.specs.Outcomes.{number, packed}
+use Rattle.field.specs.Outcomes.{number}
 use Rattle.field.specs.declared.outcome.Outcome.{Outcome}
 
 pub record Answer : Type 0 where
@@ -17,7 +16,3 @@ answered o slice = record { outcome = o; slice = slice }
 -- what the checks refuse leaves the slice: "lent memory is then unchanged"
 abbrev pub unlessRefused : Outcome → List ℕ → Answer → Answer
 unlessRefused checked slice answer = cond (eqb (number checked) 0) answer (answered checked slice)
-
--- an answer as C gets it: "number times 65536 plus the second number", and the slice
-abbrev pub Packed : Answer → ℕ → List ℕ → Type 0
-Packed answer returned slice = (returned ≡ packed (answer .outcome)) × (slice ≡ answer .slice)

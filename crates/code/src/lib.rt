@@ -1,5 +1,4 @@
 // The curve, its words, and their encoding, unencoding and recovery.
-pub mod c_entries;
 pub mod check;
 pub mod encoding;
 pub mod grid;

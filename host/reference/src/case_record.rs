@@ -38,8 +38,8 @@
 //! A line starts with the op and the two numbers of the answer (0 and 0 for
 //! `s`), and its parts are parted by one space each.
 
+use crate::arithmetic;
 use crate::code;
-use crate::field;
 use crate::outcome::Outcome;
 use crate::session::{Session, PLACE_COUNT};
 
@@ -150,9 +150,9 @@ impl Runner {
 
 fn field_answer(case: &Case) -> (Outcome, String) {
     let (outcome, symbol) = match case.op {
-        b'+' => field::add(case.q, case.a, case.b),
-        b'*' => field::multiply(case.q, case.a, case.b),
-        _ => field::invert(case.q, case.a),
+        b'+' => arithmetic::add(case.q, case.a, case.b),
+        b'*' => arithmetic::multiply(case.q, case.a, case.b),
+        _ => arithmetic::invert(case.q, case.a),
     };
     (outcome, symbol.to_string())
 }

@@ -1,13 +1,20 @@
 //! The checks that several calls share, each with its refusal.
 
-use crate::code::MISSING;
 use crate::curve::Curve;
 use crate::field::Field;
 use crate::outcome::Outcome;
 
+/// The mark of a missing symbol in broken words and sessions.
+pub const MISSING: u8 = 255;
+
+/// Refusal 1.
+pub fn curve(q: u8) -> Result<Curve, Outcome> {
+    Curve::named(q).ok_or(Outcome::UNKNOWN_CURVE)
+}
+
 /// Refusals 1 and 2.
 pub fn curve_and_order(q: u8, m: u8) -> Result<Curve, Outcome> {
-    let curve = Curve::named(q).ok_or(Outcome::UNKNOWN_CURVE)?;
+    let curve = curve(q)?;
     if usize::from(m) >= curve.point_count() {
         return Err(Outcome::ORDER_TOO_HIGH);
     }

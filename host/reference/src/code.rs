@@ -6,8 +6,7 @@ use crate::field::Field;
 use crate::linear::{self, Equation, Solutions};
 use crate::outcome::Outcome;
 
-/// The mark of a missing symbol in broken words and sessions.
-pub const MISSING: u8 = 255;
+pub use crate::checks::MISSING;
 
 /// Writes the word of a message.
 pub fn encode(q: u8, m: u8, message: &[u8], word: &mut [u8]) -> Outcome {

@@ -126,7 +126,6 @@ mod tests {
             let curve = Curve::named(q).expect("one of the two curves");
             assert_eq!(curve.q(), q);
             assert_eq!(curve.field().size(), size);
-            assert_eq!(Field::of_curve(q), Some(curve.field()));
             assert_eq!((curve.point_count(), curve.genus()), (n, g));
             assert_eq!((curve.weight(x), curve.weight(y)), (x_weight, y_weight));
         }

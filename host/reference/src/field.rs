@@ -3,11 +3,8 @@
 //! A symbol's bits are the coefficients of a polynomial in z, lowest first,
 //! and products are polynomial products reduced by z^2 = z + 1 or z^4 = z + 1.
 
-use crate::checks;
-use crate::outcome::Outcome;
-
 /// A field of 2 to the power `degree` elements. Its operations are for symbols
-/// below that number; the public entries below refuse others.
+/// below that number.
 #[derive(Clone, Copy, Debug, PartialEq, Eq)]
 pub struct Field {
     degree: u32,
@@ -27,15 +24,6 @@ impl Field {
         degree: 4,
         modulus: 0b10011,
     };
-
-    /// The field of the curve that q names.
-    pub fn of_curve(q: u8) -> Option<Field> {
-        match q {
-            2 => Some(Field::OF_4),
-            4 => Some(Field::OF_16),
-            _ => None,
-        }
-    }
 
     /// Q, the number of elements.
     pub fn size(self) -> u8 {
@@ -84,86 +72,11 @@ impl Field {
     }
 }
 
-/// The sum of two symbols; the symbol is 0 if the call is refused.
-pub fn add(q: u8, a: u8, b: u8) -> (Outcome, u8) {
-    answer(field_for(q, &[a, b]).map(|field| field.sum(a, b)))
-}
-
-/// The product of two symbols; the symbol is 0 if the call is refused.
-pub fn multiply(q: u8, a: u8, b: u8) -> (Outcome, u8) {
-    answer(field_for(q, &[a, b]).map(|field| field.product(a, b)))
-}
-
-/// The inverse of a symbol; the symbol is 0 if the call is refused.
-pub fn invert(q: u8, a: u8) -> (Outcome, u8) {
-    answer(field_for(q, &[a]).and_then(|field| field.inverse(a).ok_or(Outcome::INVERSE_OF_ZERO)))
-}
-
-fn field_for(q: u8, operands: &[u8]) -> Result<Field, Outcome> {
-    let field = Field::of_curve(q).ok_or(Outcome::UNKNOWN_CURVE)?;
-    checks::symbols(field, operands)?;
-    Ok(field)
-}
-
-fn answer(result: Result<u8, Outcome>) -> (Outcome, u8) {
-    match result {
-        Ok(symbol) => (Outcome::ACCEPTED, symbol),
-        Err(refusal) => (refusal, 0),
-    }
-}
-
 #[cfg(test)]
 mod tests {
     use super::*;
 
     const FIELDS: [Field; 2] = [Field::OF_4, Field::OF_16];
-
-    fn accepted(symbol: u8) -> (Outcome, u8) {
-        (Outcome::ACCEPTED, symbol)
-    }
-
-    #[test]
-    fn value_a_products_of_4_elements() {
-        assert_eq!(multiply(2, 2, 2), accepted(3));
-        assert_eq!(multiply(2, 2, 3), accepted(1));
-        assert_eq!(multiply(2, 3, 3), accepted(2));
-    }
-
-    #[test]
-    fn value_b_products_and_inverse_of_16_elements() {
-        assert_eq!(multiply(4, 2, 8), accepted(3));
-        assert_eq!(multiply(4, 9, 9), accepted(13));
-        assert_eq!(invert(4, 2), accepted(9));
-    }
-
-    #[test]
-    fn sums_are_bitwise_exclusive_or() {
-        for (q, size) in [(2, 4), (4, 16)] {
-            for a in 0..size {
-                for b in 0..size {
-                    assert_eq!(add(q, a, b), accepted(a ^ b));
-                }
-            }
-        }
-    }
-
-    #[test]
-    fn the_inverse_of_0_is_refused() {
-        assert_eq!(invert(2, 0), (Outcome::INVERSE_OF_ZERO, 0));
-        assert_eq!(invert(4, 0), (Outcome::INVERSE_OF_ZERO, 0));
-        assert_eq!(invert(3, 0), (Outcome::UNKNOWN_CURVE, 0));
-    }
-
-    #[test]
-    fn each_other_symbol_times_its_inverse_is_1() {
-        for (q, size) in [(2, 4), (4, 16)] {
-            for a in 1..size {
-                let (outcome, inverse) = invert(q, a);
-                assert_eq!(outcome, Outcome::ACCEPTED);
-                assert_eq!(multiply(q, a, inverse), accepted(1));
-            }
-        }
-    }
 
     #[test]
     fn products_obey_the_laws_of_a_field() {
@@ -205,37 +118,6 @@ mod tests {
             for a in 0..field.size() {
                 assert_eq!(field.power(a, usize::from(field.size())), a);
                 assert_eq!(field.power(a, 0), 1);
-            }
-        }
-    }
-
-    #[test]
-    fn unknown_curves_are_refused_before_operands() {
-        let refused = (Outcome::UNKNOWN_CURVE, 0);
-        for q in (0..=255).filter(|q| ![2, 4].contains(q)) {
-            for a in [0, 1, 3, 255] {
-                assert_eq!(add(q, a, 1), refused);
-                assert_eq!(multiply(q, 1, a), refused);
-                assert_eq!(invert(q, a), refused);
-            }
-        }
-    }
-
-    #[test]
-    fn operands_too_high_are_refused_by_the_lowest_index() {
-        for (q, size) in [(2, 4), (4, 16)] {
-            for bad in size..=255 {
-                for other in 0..=255 {
-                    let first = (Outcome::value_too_high(0), 0);
-                    assert_eq!(add(q, bad, other), first);
-                    assert_eq!(multiply(q, bad, other), first);
-                }
-                for good in 0..size {
-                    let second = (Outcome::value_too_high(1), 0);
-                    assert_eq!(add(q, good, bad), second);
-                    assert_eq!(multiply(q, good, bad), second);
-                }
-                assert_eq!(invert(q, bad), (Outcome::value_too_high(0), 0));
             }
         }
     }

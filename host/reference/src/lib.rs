@@ -7,6 +7,7 @@
 
 #![forbid(unsafe_code)]
 
+pub mod arithmetic;
 pub mod blocks;
 pub mod case_record;
 mod checks;
@@ -21,3 +22,4 @@ pub mod page;
 pub mod record_sample;
 pub mod sample;
 pub mod session;
+pub mod worked_session;

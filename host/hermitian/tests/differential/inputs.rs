@@ -61,27 +61,20 @@ fn broken_words(shape: Shape, generator: &mut Generator, word: &[u8]) -> Vec<Vec
 
 /// Every word of the small curve, each place a symbol or missing, at every
 /// order.
-pub fn every_small_broken_word(generator: &mut Generator, step: u32) -> Tally {
-    let mut tally = Tally::new();
-    for shape in Shape::every_order(Curve::Q_IS_2) {
-        // A start that differs from order to order, so that with a step above
-        // 1 the runs don't all see the same words.
-        let start = generator.below(step as usize) as u32;
-        for number in (start..5u32.pow(8)).step_by(step as usize) {
-            let call = Call::fitting(Entry::Recover, shape, digits(number, 5));
-            compare(&call, generator, &mut tally);
-        }
-    }
-    tally
+pub fn every_small_broken_word(generator: &mut Generator) -> Tally {
+    every_small(generator, Entry::Recover, 5)
 }
 
 /// Every whole word of the small curve at every order.
-pub fn every_small_word(generator: &mut Generator, step: u32) -> Tally {
+pub fn every_small_word(generator: &mut Generator) -> Tally {
+    every_small(generator, Entry::Unencode, 4)
+}
+
+fn every_small(generator: &mut Generator, entry: Entry, base: u32) -> Tally {
     let mut tally = Tally::new();
     for shape in Shape::every_order(Curve::Q_IS_2) {
-        let start = generator.below(step as usize) as u32;
-        for number in (start..4u32.pow(8)).step_by(step as usize) {
-            let call = Call::fitting(Entry::Unencode, shape, digits(number, 4));
+        for number in 0..base.pow(8) {
+            let call = Call::fitting(entry, shape, digits(number, base));
             compare(&call, generator, &mut tally);
         }
     }

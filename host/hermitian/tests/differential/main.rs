@@ -25,10 +25,8 @@ const GROUPS: [Group; 7] = [
     ("faulty calls", |g| inputs::faulty(g, 60_000)),
     ("every byte", inputs::every_byte),
     ("every q and m", inputs::every_curve_number_and_order),
-    ("small whole words", |g| inputs::every_small_word(g, 1)),
-    ("small broken words", |g| {
-        inputs::every_small_broken_word(g, 1)
-    }),
+    ("small whole words", inputs::every_small_word),
+    ("small broken words", inputs::every_small_broken_word),
 ];
 
 #[test]

@@ -8,6 +8,7 @@ use reference::file_pair;
 use reference::generator::Generator;
 use reference::sample::{self, Shape};
 use reference::session::{PLACE_COUNT, STRUCK};
+use reference::worked_session::worked_sessions;
 use std::process::ExitCode;
 
 const SEED: u64 = 1;
@@ -51,6 +52,7 @@ fn all_cases() -> Vec<Case> {
     builder.strike_runs();
     builder.round_runs();
     builder.raw_sessions();
+    builder.worked_sessions();
     builder.cases
 }
 
@@ -580,6 +582,19 @@ impl Builder {
             self.arrive((index + 1) % shape.n, 0);
             self.arrive(index, shape.field_size);
             self.arrive(shape.n, 255);
+        }
+    }
+
+    /// Asked with an empty slice after each arrival too, which changes nothing.
+    fn worked_sessions(&mut self) {
+        for worked in worked_sessions() {
+            let shape = Shape::of(Curve::Q_IS_2, worked.m);
+            self.open(shape.q(), shape.m);
+            for (place, symbol, round) in worked.arrivals {
+                self.arrive_in_round(round, usize::from(place), symbol);
+                self.ask(0);
+            }
+            self.ask(shape.k);
         }
     }
 

@@ -1,9 +1,9 @@
--- `code::c_entries::hermitian_unencode` meets its contract.
+-- `hermitian::hermitian_unencode` meets its contract.
 -- Assumes nothing.
 use borrow.Author.Needs.{needs}
-use Rattle.code.proofs.Answers.{to-packed}
-use Rattle.code.proofs.c_entries.hermitian_unencode.Statement.{statement}
-use Rattle.code.proofs.c_entries.hermitian_unencode.Tie as tie
+use Rattle.hermitian.proofs.Packed.{to-packed}
+use Rattle.hermitian.proofs.hermitian_unencode.Statement.{statement}
+use Rattle.hermitian.proofs.hermitian_unencode.Tie as tie
 
 unencode-requires : tie.Need-unencode-requires
 unencode-requires c κs = search needs

@@ -1,11 +1,11 @@
-// The entries as C calls them: a slice is a pointer and a length, and both numbers of the outcome come in one.
-ghost use Rattle.code.specs.Answers.{Packed};
+// The library as C calls it: a slice is a pointer and a length, and both numbers of the outcome come in one.
+ghost use Rattle.hermitian.specs.Packed.{Packed};
 ghost use Rattle.code.specs.Encoded.{encoded};
 ghost use Rattle.code.specs.Recovered.{recovered};
 ghost use Rattle.code.specs.Unencoded.{unencoded};
-use crate::encoding;
-use crate::recovery;
-use crate::unencoding;
+use code::encoding;
+use code::recovery;
+use code::unencoding;
 use field::outcome;
 
 #[no_mangle]

@@ -1,9 +1,9 @@
--- `code::c_entries::hermitian_recover` meets its contract.
+-- `hermitian::hermitian_recover` meets its contract.
 -- Assumes nothing.
 use borrow.Author.Needs.{needs}
-use Rattle.code.proofs.Answers.{to-packed}
-use Rattle.code.proofs.c_entries.hermitian_recover.Statement.{statement}
-use Rattle.code.proofs.c_entries.hermitian_recover.Tie as tie
+use Rattle.hermitian.proofs.Packed.{to-packed}
+use Rattle.hermitian.proofs.hermitian_recover.Statement.{statement}
+use Rattle.hermitian.proofs.hermitian_recover.Tie as tie
 
 recover-requires : tie.Need-recover-requires
 recover-requires c κs = search needs

@@ -1,9 +1,9 @@
--- `code::c_entries::hermitian_encode` meets its contract.
+-- `hermitian::hermitian_encode` meets its contract.
 -- Assumes nothing.
 use borrow.Author.Needs.{needs}
-use Rattle.code.proofs.Answers.{to-packed}
-use Rattle.code.proofs.c_entries.hermitian_encode.Statement.{statement}
-use Rattle.code.proofs.c_entries.hermitian_encode.Tie as tie
+use Rattle.hermitian.proofs.Packed.{to-packed}
+use Rattle.hermitian.proofs.hermitian_encode.Statement.{statement}
+use Rattle.hermitian.proofs.hermitian_encode.Tie as tie
 
 encode-requires : tie.Need-encode-requires
 encode-requires c κs = search needs

@@ -1,4 +1,4 @@
--- `session::clear` meets its contract. The invariant of its loop: the first i are cleared.
+-- `session::clear_conflicts` meets its contract. The invariant of its loop: the first i have no conflict left.
 -- Assumes nothing.
 use mathlib.Core.Path.{_≡_, refl, ap, _∙_}
 use Prim.Native.Nat.{_≤_, _-_}
@@ -7,13 +7,13 @@ use borrow.Author.Needs.{needs}
 use lib.ListN.{length, getD, length-set}
 use Rattle.poly.specs.Ranges.{writes}
 use Rattle.poly.proofs.Writes.{writes-turn, writes-kept, writes-end, writes-map}
-use Rattle.session.specs.Arrived.{cleared}
-use Rattle.session.proofs.clear.Statement.{statement}
-use Rattle.session.proofs.clear.Tie as tie
+use Rattle.session.specs.Arrived.{conflictAsMissing}
+use Rattle.session.proofs.clear_conflicts.Statement.{statement}
+use Rattle.session.proofs.clear_conflicts.Tie as tie
 
 abbrev Inv-loop : tie.InvT-loop
 Inv-loop places₀ i₀ places i =
-    (i ≤ length places₀) × (length places ≡ length places₀) × (places ≡ writes places₀ i (λ j. cleared (getD places₀ j 0)))
+    (i ≤ length places₀) × (length places ≡ length places₀) × (places ≡ writes places₀ i (λ j. conflictAsMissing (getD places₀ j 0)))
 
 abbrev μ-loop : tie.MeasureT-loop
 μ-loop places₀ i₀ places i = length places₀ - i
@@ -22,11 +22,11 @@ loop-holds : tie.Need-loop-holds Inv-loop μ-loop
 unfolding writes
 loop-holds c = (omega arith, refl, refl)
 
-slice-read-cleared-of : tie.Need-slice-read-cleared-of Inv-loop μ-loop
-slice-read-cleared-of c = omega arith
+slice-read-conflict-as-missing : tie.Need-slice-read-conflict-as-missing Inv-loop μ-loop
+slice-read-conflict-as-missing c = omega arith
 
-cleared-of-requires : tie.Need-cleared-of-requires Inv-loop μ-loop
-cleared-of-requires c κs = search needs
+conflict-as-missing-requires : tie.Need-conflict-as-missing-requires Inv-loop μ-loop
+conflict-as-missing-requires c κs = search needs
 
 slice-write-places : tie.Need-slice-write-places Inv-loop μ-loop
 slice-write-places c = omega arith
@@ -40,8 +40,9 @@ loop-less c = omega arith
 loop-again : tie.Need-loop-again Inv-loop μ-loop
 loop-again c =
     let l = c .before .before .before .loop in
-    let kept = writes-kept _ _ (l .places) (l .i) (l .inv .2) in
-    (omega arith, simp length-set (l .inv .1), writes-turn _ _ (l .places) (l .i) _ (l .inv .2) (c .cleared-of .ensures ∙ ap cleared kept))
+    let was = writes-kept _ _ (l .places) (l .i) (l .inv .2) in
+    let next = writes-turn _ _ (l .places) (l .i) _ (l .inv .2) (c .conflict-as-missing .ensures ∙ ap conflictAsMissing was) in
+    (omega arith, simp length-set (l .inv .1), next)
 
 same-length : tie.Need-same-length Inv-loop μ-loop
 same-length c = c .before .loop .inv .1
@@ -49,17 +50,17 @@ same-length c = c .before .loop .inv .1
 returns : tie.Need-returns Inv-loop μ-loop
 returns c =
     let l = c .before .loop in
-    writes-end _ _ (l .places) (l .i) _ (l .inv .2) (l .inv .0) (omega arith) ∙ writes-map cleared _
+    writes-end _ _ (l .places) (l .i) _ (l .inv .2) (l .inv .0) (omega arith) ∙ writes-map conflictAsMissing _
 
-pub clear-spec : {M : Type 1} → statement M
-clear-spec =
+pub clear-conflicts-spec : {M : Type 1} → statement M
+clear-conflicts-spec =
     tie.close
     (tie.spec
     Inv-loop
     μ-loop
     loop-holds
-    slice-read-cleared-of
-    cleared-of-requires
+    slice-read-conflict-as-missing
+    conflict-as-missing-requires
     slice-write-places
     add-i
     loop-less

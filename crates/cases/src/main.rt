@@ -34,8 +34,8 @@ fn print_values(values: &[u8], after: u8) {
     let mut j = 0;
     let n = room(values.len());
     while j < n {
-        text[at] = lines::text::glyph(values[j] / 16);
-        text[at + 1] = lines::text::glyph(values[j]);
+        text[at] = lines::text::hex_digit(values[j] / 16);
+        text[at + 1] = lines::text::hex_digit(values[j]);
         at += 2;
         j += 1;
     }

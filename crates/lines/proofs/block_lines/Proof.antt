@@ -1,20 +1,21 @@
--- `page` meets its contract. The invariant of its loop: the lines of the first k records are written.
+-- `block_lines` meets its contract. The invariant of its loop: the lines of the first k records are written.
 -- Assumes nothing.
 use mathlib.Core.Path.{_≡_, refl, sym, _∙_}
 use Prim.Native.Nat.{_+_, _-_, _*_, _≤_, _<_}
 use native.Mathlib.Omega.{arith}
 use borrow.Author.Needs.{needs}
 use lib.ListN.{length}
-use Rattle.lines.specs.Text.{joined, Typed}
+use Rattle.lines.specs.Text.{joined, Written}
 use Rattle.lines.specs.Line.{numberedLine}
 use Rattle.lines.proofs.Texts.{joined-none, joined-more}
-use Rattle.lines.proofs.Lines.{page-end}
-use Rattle.lines.proofs.page.Statement.{statement}
-use Rattle.lines.proofs.page.Tie as tie
+use Rattle.lines.proofs.Lines.{lines-end}
+use Rattle.lines.proofs.block_lines.Statement.{statement}
+use Rattle.lines.proofs.block_lines.Tie as tie
 
 abbrev Inv-loop : tie.InvT-loop
 Inv-loop first blocks out₀ k₀ at₀ used₀ out k at used =
-    (at ≡ 64 * k) × (at < length blocks + 64) × (used ≤ 66 * k) × (length out ≡ length out₀) × Typed out₀ 0 (joined (numberedLine first blocks) k) used out
+    (at ≡ 64 * k) × (at < length blocks + 64) × (used ≤ 66 * k) × (length out ≡ length out₀)
+    × Written out₀ 0 (joined (numberedLine first blocks) k) used out
 
 abbrev μ-loop : tie.MeasureT-loop
 μ-loop first blocks out₀ k₀ at₀ used₀ out k at used = length blocks + 64 - at
@@ -71,10 +72,10 @@ returns : tie.Need-returns Inv-loop μ-loop
 returns c =
     let l = c .before .loop in
     let a = c .before .before .before .before .args in
-    (rw (sym (page-end (a .first) (a .blocks .now) (l .k) (omega arith) (omega arith))) (l .inv .4), omega arith)
+    (rw (sym (lines-end (a .first) (a .blocks .now) (l .k) (omega arith) (omega arith))) (l .inv .4), omega arith)
 
-pub page-spec : {M : Type 1} → statement M
-page-spec =
+pub block-lines-spec : {M : Type 1} → statement M
+block-lines-spec =
     tie.close
     (tie.spec
     Inv-loop

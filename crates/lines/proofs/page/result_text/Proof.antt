@@ -1,10 +1,10 @@
--- `sheet::verdict` meets its contract.
+-- `page::result_text` meets its contract.
 -- Assumes nothing.
 use native.Mathlib.Omega.{arith}
 use borrow.Author.Needs.{needs}
-use Rattle.lines.proofs.Sheets.{verdict-ok, verdict-none, verdict-several, verdict-bad}
-use Rattle.lines.proofs.sheet.verdict.Statement.{statement}
-use Rattle.lines.proofs.sheet.verdict.Tie as tie
+use Rattle.lines.proofs.Pages.{result-ok, result-none, result-several, result-bad}
+use Rattle.lines.proofs.page.result_text.Statement.{statement}
+use Rattle.lines.proofs.page.result_text.Tie as tie
 
 slice-aggregate-bytes : tie.Need-slice-aggregate-bytes
 slice-aggregate-bytes c = search needs
@@ -33,34 +33,39 @@ same-length c = search needs
 returns : tie.Need-returns
 returns c =
     let a = c .before .before .before .before .before .before .before .args in
-    (rw (verdict-ok (a .refusal) (a .second) (c .before .before .before .before .before .if1 .taken)) (c .before .before .bytes .ensures), omega arith)
+    (rw (result-ok (a .refusal) (a .second) (c .before .before .before .before .before .if1 .taken)) (c .before .before .bytes .ensures), omega arith)
 
 same-length-2 : tie.Need-same-length-2
 same-length-2 c = search needs
 
 returns-2 : tie.Need-returns-2
 returns-2 c =
-    let a = c .before .before .before .before .before .before .before .before .args in
-    (rw (verdict-none (a .refusal) (a .second) (c .before .before .before .before .before .before .if1 .left) (c .before .before .before .before .before .if2 .taken)) (c .before .before .bytes2 .ensures), omega arith)
+    let two = c .before .before .before .before .before in
+    let a = two .before .before .before .args in
+    (rw (result-none (a .refusal) (a .second) (two .before .if1 .left) (two .if2 .taken)) (c .before .before .bytes2 .ensures), omega arith)
 
 same-length-3 : tie.Need-same-length-3
 same-length-3 c = search needs
 
 returns-3 : tie.Need-returns-3
 returns-3 c =
-    let a = c .before .before .before .before .before .before .before .before .args in
-    (rw (verdict-several (a .refusal) (a .second) (c .before .before .before .before .before .before .if1 .left) (c .before .before .before .before .before .if2 .left) (c .before .before .before .before .if3 .taken)) (c .before .before .several .ensures .0), omega arith)
+    let three = c .before .before .before .before in
+    let a = three .before .before .before .before .args in
+    let is = result-several (a .refusal) (a .second) (three .before .before .if1 .left) (three .before .if2 .left) (three .if3 .taken) in
+    (rw is (c .before .before .several .ensures .0), omega arith)
 
 same-length-4 : tie.Need-same-length-4
 same-length-4 c = search needs
 
 returns-4 : tie.Need-returns-4
 returns-4 c =
-    let a = c .before .before .before .before .before .before .before .before .before .args in
-    (rw (verdict-bad (a .refusal) (a .second) (c .before .before .before .before .before .before .before .if1 .left) (c .before .before .before .before .before .before .if2 .left) (c .before .before .before .before .before .if3 .left)) (c .before .before .bytes3 .ensures), omega arith)
+    let three = c .before .before .before .before .before in
+    let a = three .before .before .before .before .args in
+    let is = result-bad (a .refusal) (a .second) (three .before .before .if1 .left) (three .before .if2 .left) (three .if3 .left) in
+    (rw is (c .before .before .bytes3 .ensures), omega arith)
 
-pub verdict-spec : {M : Type 1} → statement M
-verdict-spec =
+pub result-text-spec : {M : Type 1} → statement M
+result-text-spec =
     tie.close
     (tie.spec
     slice-aggregate-bytes

@@ -1,10 +1,10 @@
--- `text::glyph` meets its contract.
+-- `text::hex_digit` meets its contract.
 -- Assumes nothing.
 use Prim.Native.Nat.{_%_}
 use borrow.Author.Tests.{lt-ltb, le-ltb}
 use borrow.Author.Needs.{needs}
-use Rattle.lines.proofs.text.glyph.Statement.{statement}
-use Rattle.lines.proofs.text.glyph.Tie as tie
+use Rattle.lines.proofs.text.hex_digit.Statement.{statement}
+use Rattle.lines.proofs.text.hex_digit.Tie as tie
 
 add-result : tie.Need-add-result
 add-result c = search needs
@@ -18,5 +18,5 @@ returns c = rw (lt-ltb (c .before .args .value % 16) 10 (c .if1 .taken))
 returns-2 : tie.Need-returns-2
 returns-2 c = rw (le-ltb (c .before .args .value % 16) 10 (c .if1 .left))
 
-pub glyph-spec : {M : Type 1} → statement M
-glyph-spec = tie.close (tie.spec add-result add-result-2 returns returns-2)
+pub hex-digit-spec : {M : Type 1} → statement M
+hex-digit-spec = tie.close (tie.spec add-result add-result-2 returns returns-2)

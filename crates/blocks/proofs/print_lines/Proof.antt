@@ -1,11 +1,11 @@
--- `print_page` is safe and ends: what it lends to be written lies within the page.
+-- `print_lines` is safe and ends: what it lends to be written lies within the buffer.
 -- Assumes nothing.
 use mathlib.Core.Path.{sym}
 use native.Mathlib.Omega.{arith}
 use lib.Seq.{length-take-le}
 use borrow.Author.Needs.{needs}
-use Rattle.blocks.proofs.print_page.Statement.{statement}
-use Rattle.blocks.proofs.print_page.Tie as tie
+use Rattle.blocks.proofs.print_lines.Statement.{statement}
+use Rattle.blocks.proofs.print_lines.Tie as tie
 
 large-buffer-requires : tie.Need-large-buffer-requires
 large-buffer-requires c κs = search needs
@@ -19,14 +19,14 @@ read-full-requires c κs = search needs
 array-share-prefix-blocks : tie.Need-array-share-prefix-blocks
 array-share-prefix-blocks c = search needs
 
-slice-aggregate-page : tie.Need-slice-aggregate-page
-slice-aggregate-page c = search needs
+slice-aggregate-block-lines : tie.Need-slice-aggregate-block-lines
+slice-aggregate-block-lines c = search needs
 
-slice-aggregate-page-2 : tie.Need-slice-aggregate-page-2
-slice-aggregate-page-2 c = search needs
+slice-aggregate-block-lines-2 : tie.Need-slice-aggregate-block-lines-2
+slice-aggregate-block-lines-2 c = search needs
 
-page-requires : tie.Need-page-requires
-page-requires c κs = search needs
+block-lines-requires : tie.Need-block-lines-requires
+block-lines-requires c κs = search needs
 
 array-share-prefix-out : tie.Need-array-share-prefix-out
 array-share-prefix-out c = search needs
@@ -43,17 +43,17 @@ returns c = search needs
 returns-2 : tie.Need-returns-2
 returns-2 c = search needs
 
-pub print-page-spec : {M : Type 1} → statement M
-print-page-spec =
+pub print-lines-spec : {M : Type 1} → statement M
+print-lines-spec =
     tie.close
     (tie.spec
     large-buffer-requires
     slice-aggregate-read-full
     read-full-requires
     array-share-prefix-blocks
-    slice-aggregate-page
-    slice-aggregate-page-2
-    page-requires
+    slice-aggregate-block-lines
+    slice-aggregate-block-lines-2
+    block-lines-requires
     array-share-prefix-out
     slice-aggregate-write-all
     write-all-requires

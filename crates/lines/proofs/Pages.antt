@@ -1,4 +1,4 @@
--- What a sheet is put together from: a value's character, a point, the last line and its spaces, and one sheet after another.
+-- What a page is put together from: a value's character, a point, the last line and its spaces, and one page after another.
 -- Assumes nothing.
 use mathlib.Core.Bool.{true}
 use mathlib.Core.Path.{_≡_, refl, sym, ap, _∙_}
@@ -16,53 +16,53 @@ use Rattle.code.specs.Recovered.{recovered}
 use Rattle.code.specs.Columns.{Ys}
 use Rattle.code.proofs.Checks.{good-symbol, good-gap, bad-gap}
 use Rattle.code.proofs.YsTables.{table-at}
-use Rattle.lines.specs.Text.{glyph, joined, Typed}
-use Rattle.lines.specs.Sheet.{mark, pointText, columnLine, severalText, verdict, lastLine, sheetOf}
+use Rattle.lines.specs.Text.{hexDigit, joined, Written}
+use Rattle.lines.specs.Page.{character, pointText, columnLine, severalText, resultText, lastLine, pageOf}
 use Rattle.lines.proofs.Texts.{next}
 
 -- the character of a value
 module _ (v : ℕ) where
-  pub mark-symbol : v < 16 → mark v ≡ glyph v
-  unfolding mark
-  mark-symbol h = rw (good-symbol true 16 v h, ne-eqb v 255 (λ e. omega arith))
+  pub character-symbol : v < 16 → character v ≡ hexDigit v
+  unfolding character
+  character-symbol h = rw (good-symbol true 16 v h, ne-eqb v 255 (λ e. omega arith))
 
-  pub mark-missing : v ≡ 255 → mark v ≡ 46
-  unfolding mark
-  mark-missing e = rw (good-gap 16 v e, eq-eqb v 255 e)
+  pub character-missing : v ≡ 255 → character v ≡ 46
+  unfolding character
+  character-missing e = rw (good-gap 16 v e, eq-eqb v 255 e)
 
-  pub mark-bad : 16 ≤ v → (v ≡ 255 → ⊥) → mark v ≡ 63
-  unfolding mark
-  mark-bad h d = rw (bad-gap 16 v h d true)
+  pub character-bad : 16 ≤ v → (v ≡ 255 → ⊥) → character v ≡ 63
+  unfolding character
+  character-bad h d = rw (bad-gap 16 v h d true)
 
 -- the table's y is that of the point
 pub point-at :
     (block ys : List ℕ) (x s y symbol : ℕ) →
     Ys 4 ys → x < 16 → s < 4 →
-    y ≡ glyph (getD ys (4 * x + s) 0) →
-    symbol ≡ mark (getD block (4 * x + s) 0) →
+    y ≡ hexDigit (getD ys (4 * x + s) 0) →
+    symbol ≡ character (getD block (4 * x + s) 0) →
     32 ∷ y ∷ 61 ∷ symbol ∷ [] ≡ pointText block x s
 unfolding pointText
 point-at block ys x s y symbol t l b e g = rw (e, g, table-at 4 ys t x s l b)
 
 -- what the last line says
 module _ (refusal r : ℕ) where
-  pub verdict-ok : refusal ≡ 0 → verdict refusal r ≡ 111 ∷ 107 ∷ []
-  unfolding verdict
-  verdict-ok e = rw (eq-eqb refusal 0 e)
+  pub result-ok : refusal ≡ 0 → resultText refusal r ≡ 111 ∷ 107 ∷ []
+  unfolding resultText
+  result-ok e = rw (eq-eqb refusal 0 e)
 
   module _ (refused : refusal ≡ 0 → ⊥) where
-    pub verdict-none : refusal ≡ 9 → verdict refusal r ≡ 110 ∷ 111 ∷ 110 ∷ 101 ∷ []
-    unfolding verdict
-    verdict-none e = rw (ne-eqb refusal 0 refused, eq-eqb refusal 9 e)
+    pub result-none : refusal ≡ 9 → resultText refusal r ≡ 110 ∷ 111 ∷ 110 ∷ 101 ∷ []
+    unfolding resultText
+    result-none e = rw (ne-eqb refusal 0 refused, eq-eqb refusal 9 e)
 
     module _ (some : refusal ≡ 9 → ⊥) where
-      pub verdict-several : refusal ≡ 10 → verdict refusal r ≡ severalText r
-      unfolding verdict
-      verdict-several e = rw (ne-eqb refusal 0 refused, ne-eqb refusal 9 some, eq-eqb refusal 10 e)
+      pub result-several : refusal ≡ 10 → resultText refusal r ≡ severalText r
+      unfolding resultText
+      result-several e = rw (ne-eqb refusal 0 refused, ne-eqb refusal 9 some, eq-eqb refusal 10 e)
 
-      pub verdict-bad : (refusal ≡ 10 → ⊥) → verdict refusal r ≡ 98 ∷ 97 ∷ 100 ∷ []
-      unfolding verdict
-      verdict-bad d = rw (ne-eqb refusal 0 refused, ne-eqb refusal 9 some, ne-eqb refusal 10 d)
+      pub result-bad : (refusal ≡ 10 → ⊥) → resultText refusal r ≡ 98 ∷ 97 ∷ 100 ∷ []
+      unfolding resultText
+      result-bad d = rw (ne-eqb refusal 0 refused, ne-eqb refusal 9 some, ne-eqb refusal 10 d)
 
 take-replicate : (n m v : ℕ) → n ≤ m → take n (replicate m v) ≡ replicate n v
 take-replicate zero m v h = refl
@@ -79,24 +79,25 @@ length-spaces at end h = length-take-le (at + 18 - end) (spaces 0 0) (omega arit
 -- they are those that the line lacks
 pub last-line-whole :
     {l d e f : List ℕ} {at end b c : ℕ} (refusal r : ℕ) →
-    Typed l at (verdict refusal r) end d → end ≤ at + 11 →
-    Typed d end (spaces at end) b e →
-    Typed e b (10 ∷ []) c f →
-    Typed l at (lastLine refusal r) c f × (c ≡ at + 19)
+    Written l at (resultText refusal r) end d → end ≤ at + 11 →
+    Written d end (spaces at end) b e →
+    Written e b (10 ∷ []) c f →
+    Written l at (lastLine refusal r) c f × (c ≡ at + 19)
 unfolding lastLine
 last-line-whole {at = at} {end = end} refusal r v h s n =
-    let lacks : at + 18 - end ≡ 18 - length (verdict refusal r) = omega (arith, v .ends) in
-    let same : spaces at end ≡ replicate (18 - length (verdict refusal r)) 32 = take-replicate (at + 18 - end) 18 32 (omega (arith, v .ends)) ∙ ap (λ (n : ℕ). replicate n 32) lacks in
+    let lacks : at + 18 - end ≡ 18 - length (resultText refusal r) = omega (arith, v .ends) in
+    let same : spaces at end ≡ replicate (18 - length (resultText refusal r)) 32
+    = take-replicate (at + 18 - end) 18 32 (omega (arith, v .ends)) ∙ ap (λ (n : ℕ). replicate n 32) lacks in
     (rw (sym same) (next v (next s n)), omega (arith, v .ends, s .ends, n .ends, length-spaces at end (omega (arith, v .ends))))
 
 -- the lines of the columns and the last one
-pub sheet-whole :
+pub page-whole :
     (block : List ℕ) (o : Outcome) (slice : List ℕ) →
     recovered 4 37 block (replicate 32 0) ≡ answered o slice →
     (r s : ℕ) → r ≡ number o → s ≡ second o →
-    joined (columnLine block) 16 ++ lastLine r s ≡ sheetOf block
-unfolding sheetOf
-sheet-whole block o slice says r s e g =
+    joined (columnLine block) 16 ++ lastLine r s ≡ pageOf block
+unfolding pageOf
+page-whole block o slice says r s e g =
     rw (e, g) (ap (λ (u : Outcome). joined (columnLine block) 16 ++ lastLine (number u) (second u)) (sym (ap (λ (a : Answer). a .outcome) says)))
 
 -- the part of a file that record k is

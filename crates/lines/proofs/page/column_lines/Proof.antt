@@ -1,4 +1,4 @@
--- `sheet::column_lines` meets its contract. The invariant of its loop: the lines of the first x columns are written.
+-- `page::column_lines` meets its contract. The invariant of its loop: the lines of the first x columns are written.
 -- Assumes nothing.
 use mathlib.Core.Logic.{inr}
 use mathlib.Core.Path.{_≡_, refl, sym, _∙_}
@@ -6,15 +6,15 @@ use Prim.Native.Nat.{_+_, _-_, _*_, _≤_}
 use native.Mathlib.Omega.{arith}
 use borrow.Author.Needs.{needs}
 use lib.ListN.{length}
-use Rattle.lines.specs.Text.{joined, Typed}
-use Rattle.lines.specs.Sheet.{columnLine}
+use Rattle.lines.specs.Text.{joined, Written}
+use Rattle.lines.specs.Page.{columnLine}
 use Rattle.lines.proofs.Texts.{joined-none, joined-more}
-use Rattle.lines.proofs.sheet.column_lines.Statement.{statement}
-use Rattle.lines.proofs.sheet.column_lines.Tie as tie
+use Rattle.lines.proofs.page.column_lines.Statement.{statement}
+use Rattle.lines.proofs.page.column_lines.Tie as tie
 
 abbrev Inv-loop : tie.InvT-loop
 Inv-loop block at out₀ ys x₀ end₀ out x end =
-    (x ≤ 16) × (end ≡ at + 19 * x) × (length out ≡ length out₀) × Typed out₀ at (joined (columnLine block) x) end out
+    (x ≤ 16) × (end ≡ at + 19 * x) × (length out ≡ length out₀) × Written out₀ at (joined (columnLine block) x) end out
 
 abbrev μ-loop : tie.MeasureT-loop
 μ-loop block at out₀ ys x₀ end₀ out x end = 16 - x
@@ -29,7 +29,9 @@ slice-aggregate-column-line : tie.Need-slice-aggregate-column-line Inv-loop μ-l
 slice-aggregate-column-line c = search needs
 
 column-line-requires : tie.Need-column-line-requires Inv-loop μ-loop
-column-line-requires c κs = (omega arith, c .before .before .before .before .ys .ensures, c .before .before .before .before .before .before .before .pre .0, omega arith)
+column-line-requires c κs =
+    let table = c .before .before .before .before in
+    (omega arith, table .ys .ensures, table .before .before .before .pre .0, omega arith)
 
 add-x : tie.Need-add-x Inv-loop μ-loop
 add-x c = omega arith
@@ -39,9 +41,10 @@ loop-less c = omega arith
 
 loop-again : tie.Need-loop-again Inv-loop μ-loop
 loop-again c =
+    let block = c .before .before .before .before .before .before .before .before .before .before .args .block .now in
     let l = c .before .before .before .before .before .before .loop in
     let r = c .before .before .column-line in
-    (omega arith, omega arith, r .kept .1 .1 .1 .1 .0 ∙ l .inv .2, joined-more (columnLine (c .before .before .before .before .before .before .before .before .before .before .args .block .now)) (l .inv .3) (r .ensures .0))
+    (omega arith, omega arith, r .kept .1 .1 .1 .1 .0 ∙ l .inv .2, joined-more (columnLine block) (l .inv .3) (r .ensures .0))
 
 same-length : tie.Need-same-length Inv-loop μ-loop
 same-length c = c .before .loop .inv .2

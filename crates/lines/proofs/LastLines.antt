@@ -1,4 +1,4 @@
--- The last line of a sheet: it says `bad` exactly for a record with a bad value, and else `ok`, `none` or `several`.
+-- The last line of a page: it says `bad` exactly for a record with a bad value, and else `ok`, `none` or `several`.
 -- Assumes nothing.
 use mathlib.Core.Bool.{true}
 use mathlib.Core.Logic.{_⊎_, inl, inr}
@@ -17,7 +17,7 @@ use Rattle.code.specs.Recovered.{Reading, nothing, message, several, told, reco
 use Rattle.code.proofs.Checks.{slices-value, slices-passed, call-past}
 use Rattle.code.proofs.Recoveries.{readingOf, recovered-refused, recovered-told}
 use Rattle.code.proofs.Weights.{size-4}
-use Rattle.lines.specs.Sheet.{outcomeOf}
+use Rattle.lines.specs.Page.{outcomeOf}
 
 -- ok, none or several
 abbrev pub Read : ℕ → Type 0
@@ -45,5 +45,6 @@ module _ (block : List ℕ) (long : length block ≡ 64) where
             inl (h, ap (λ (a : Answer). number (a .outcome)) (recovered-refused 4 37 block (replicate 32 0) (BadValue bad) refused refl))
         | no h ↦
             let passed = checked Done (sym (slices-passed true 16 64 block 32 32 Done long bad refl (omega arith) refl)) in
-            inr (omega arith, subst (λ (a : Answer). Read (number (a .outcome))) (sym (recovered-told 4 37 block (replicate 32 0) passed)) (told-read (readingOf 4 37 block) (replicate 32 0)))
+            let says = sym (recovered-told 4 37 block (replicate 32 0) passed) in
+            inr (omega arith, subst (λ (a : Answer). Read (number (a .outcome))) says (told-read (readingOf 4 37 block) (replicate 32 0)))
       ]

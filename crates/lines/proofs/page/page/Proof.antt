@@ -1,12 +1,12 @@
--- `sheet::sheet` meets its contract.
+-- `page::page` meets its contract.
 -- Assumes nothing.
 use mathlib.Core.Path.{sym}
 use native.Mathlib.Omega.{arith}
 use borrow.Author.Needs.{needs}
 use Rattle.lines.proofs.Texts.{next}
-use Rattle.lines.proofs.Sheets.{sheet-whole}
-use Rattle.lines.proofs.sheet.sheet.Statement.{statement}
-use Rattle.lines.proofs.sheet.sheet.Tie as tie
+use Rattle.lines.proofs.Pages.{page-whole}
+use Rattle.lines.proofs.page.page.Statement.{statement}
+use Rattle.lines.proofs.page.page.Tie as tie
 
 column-lines-requires : tie.Need-column-lines-requires
 column-lines-requires c κs = search needs
@@ -31,16 +31,19 @@ same-length c = search needs
 
 returns : tie.Need-returns
 returns c =
-    let block = c .before .before .before .before .before .before .before .before .before .before .before .before .before .before .before .args .block .now in
-    let columns = c .before .before .before .before .before .before .before .before .before .before .before .column-lines in
-    let r = c .before .before .before .before .before .before .before .recover in
+    let called = c .before .before .before .before .before .before .before in
+    let written = called .before .before .before .before in
+    let block = written .before .before .before .before .args .block .now in
+    let columns = written .column-lines in
+    let r = called .recover in
     let n = c .before .before .before .before .before .number in
     let s = c .before .before .before .before .second in
     let last = c .before .before .last-line in
-    (rw (sym (sheet-whole block (r .result) (r .last .1 .1 .1 .0) (r .ensures) (n .result) (s .result) (n .ensures) (s .ensures))) (next (columns .ensures .0) (last .ensures .0)), omega arith)
+    let whole = page-whole block (r .result) (r .last .1 .1 .1 .0) (r .ensures) (n .result) (s .result) (n .ensures) (s .ensures) in
+    (rw (sym whole) (next (columns .ensures .0) (last .ensures .0)), omega arith)
 
-pub sheet-spec : {M : Type 1} → statement M
-sheet-spec =
+pub page-spec : {M : Type 1} → statement M
+page-spec =
     tie.close
     (tie.spec
     column-lines-requires

@@ -1,18 +1,18 @@
--- `sheet::column_line` meets its contract.
+-- `page::column_line` meets its contract.
 -- Assumes nothing.
 use mathlib.Core.Path.{sym}
 use native.Mathlib.Omega.{arith}
 use borrow.Author.Needs.{needs}
-use Rattle.lines.specs.Sheet.{columnLine}
+use Rattle.lines.specs.Page.{columnLine}
 use Rattle.lines.proofs.Texts.{next}
-use Rattle.lines.proofs.sheet.column_line.Statement.{statement}
-use Rattle.lines.proofs.sheet.column_line.Tie as tie
+use Rattle.lines.proofs.page.column_line.Statement.{statement}
+use Rattle.lines.proofs.page.column_line.Tie as tie
 
-cast-glyph : tie.Need-cast-glyph
-cast-glyph c = search needs
+cast-hex-digit : tie.Need-cast-hex-digit
+cast-hex-digit c = search needs
 
-glyph-requires : tie.Need-glyph-requires
-glyph-requires c κs = search needs
+hex-digit-requires : tie.Need-hex-digit-requires
+hex-digit-requires c κs = search needs
 
 slice-aggregate-bytes : tie.Need-slice-aggregate-bytes
 slice-aggregate-bytes c = search needs
@@ -35,7 +35,7 @@ same-length c = search needs
 returns : tie.Need-returns
 unfolding columnLine
 returns c =
-    let digit = c .before .before .before .before .before .before .before .before .before .before .before .before .before .before .glyph in
+    let digit = c .before .before .before .before .before .before .before .before .before .before .before .before .before .before .hex-digit in
     let x = c .before .before .before .before .before .before .before .before .before .before .before .bytes .ensures in
     let points = c .before .before .before .before .before .before .before .points .ensures in
     let end = c .before .before .bytes2 .ensures in
@@ -45,8 +45,8 @@ pub column-line-spec : {M : Type 1} → statement M
 column-line-spec =
     tie.close
     (tie.spec
-    cast-glyph
-    glyph-requires
+    cast-hex-digit
+    hex-digit-requires
     slice-aggregate-bytes
     bytes-requires
     points-requires

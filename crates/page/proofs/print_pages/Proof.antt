@@ -1,11 +1,11 @@
--- `print_sheets` is safe and ends: what it lends to be written lies within the sheets.
+-- `print_pages` is safe and ends: what it lends to be written lies within the buffer.
 -- Assumes nothing.
 use mathlib.Core.Path.{sym}
 use native.Mathlib.Omega.{arith}
 use lib.Seq.{length-take-le}
 use borrow.Author.Needs.{needs}
-use Rattle.page.proofs.print_sheets.Statement.{statement}
-use Rattle.page.proofs.print_sheets.Tie as tie
+use Rattle.page.proofs.print_pages.Statement.{statement}
+use Rattle.page.proofs.print_pages.Tie as tie
 
 slice-aggregate-read-full : tie.Need-slice-aggregate-read-full
 slice-aggregate-read-full c = search needs
@@ -16,14 +16,14 @@ read-full-requires c κs = search needs
 array-share-prefix-blocks : tie.Need-array-share-prefix-blocks
 array-share-prefix-blocks c = search needs
 
-slice-aggregate-sheets : tie.Need-slice-aggregate-sheets
-slice-aggregate-sheets c = search needs
+slice-aggregate-pages : tie.Need-slice-aggregate-pages
+slice-aggregate-pages c = search needs
 
-slice-aggregate-sheets-2 : tie.Need-slice-aggregate-sheets-2
-slice-aggregate-sheets-2 c = search needs
+slice-aggregate-pages-2 : tie.Need-slice-aggregate-pages-2
+slice-aggregate-pages-2 c = search needs
 
-sheets-requires : tie.Need-sheets-requires
-sheets-requires c κs = search needs
+pages-requires : tie.Need-pages-requires
+pages-requires c κs = search needs
 
 array-share-prefix-out : tie.Need-array-share-prefix-out
 array-share-prefix-out c = search needs
@@ -40,16 +40,16 @@ returns c = search needs
 returns-2 : tie.Need-returns-2
 returns-2 c = search needs
 
-pub print-sheets-spec : {M : Type 1} → statement M
-print-sheets-spec =
+pub print-pages-spec : {M : Type 1} → statement M
+print-pages-spec =
     tie.close
     (tie.spec
     slice-aggregate-read-full
     read-full-requires
     array-share-prefix-blocks
-    slice-aggregate-sheets
-    slice-aggregate-sheets-2
-    sheets-requires
+    slice-aggregate-pages
+    slice-aggregate-pages-2
+    pages-requires
     array-share-prefix-out
     slice-aggregate-write-all
     write-all-requires

@@ -1,14 +1,23 @@
--- Text written over a part of a list: one more character, and one text after another.
+-- Hexadecimal digits; text written over a part of a list: one more character, and one text after another.
 -- Assumes nothing.
 use mathlib.Core.Path.{_≡_, refl, sym, ap, _∙_}
 use mathlib.Core.List.{List, [], _∷_, _++_, map, map-append}
-use Prim.Native.Nat.{ℕ, suc, _+_, _<_}
+use Prim.Native.Nat.{ℕ, suc, _+_, _%_, _≤_, _<_}
 use native.Mathlib.Nat.{add-zero, add-suc, suc-add}
 use native.Mathlib.Numerals.{add-one}
 use native.Mathlib.Omega.{arith}
+use borrow.Author.Tests.{lt-ltb, le-ltb}
 use lib.ListN.{length, getD, take, set, length-append, length-map}
 use lib.Seq.{sets, take-suc, length-take-le}
-use Rattle.lines.specs.Text.{joined, Written}
+use Rattle.lines.specs.Text.{hexDigit, joined, Written}
+
+-- a hexadecimal digit
+module _ (n : ℕ) where
+  pub digit-low : n % 16 < 10 → hexDigit n ≡ 48 + n % 16
+  digit-low l = rw (lt-ltb (n % 16) 10 l)
+
+  pub digit-high : 10 ≤ n % 16 → hexDigit n ≡ 87 + n % 16
+  digit-high l = rw (le-ltb (n % 16) 10 l)
 
 pub sets-append : (l : List ℕ) (at : ℕ) (s t : List ℕ) → sets l at (s ++ t) ≡ sets (sets l at s) (at + length s) t
 sets-append l at [] t = rw (add-zero at)

@@ -50,6 +50,12 @@ module _ (q m : ℕ) (o : Outcome) (is : o ≡ orderChecks q m Done) where
 
 -- ---- one place
 
+pub conflict-missing : (x : ℕ) → x ≡ 254 → conflictAsMissing x ≡ 255
+conflict-missing x e = rw (eq-eqb x 254 e)
+
+pub no-conflict : (x : ℕ) → (x ≡ 254 → ⊥) → conflictAsMissing x ≡ x
+no-conflict x n = rw (ne-eqb x 254 n)
+
 module _ (old oldRound symbol round : ℕ) where
   abbrev then : Stored
   then = merged old oldRound symbol round

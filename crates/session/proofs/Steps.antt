@@ -26,7 +26,7 @@ use Rattle.session.specs.Opened.{opened}
 use Rattle.session.specs.Arrived.{conflictAsMissing, stored, merged, arrivalChecks, reply, withStored, arrived}
 use Rattle.session.specs.ReferenceModel.{Place, missing, symbol, conflict, Model, emptyModel, updated, inRange, accepts, afterArrival}
 use Rattle.session.proofs.Arrivals.{opened-outcome, opened-done, Searched, checks-place, checks-symbol, checks-done}
-use Rattle.session.proofs.Arrivals.{arrived-refused, arrived-merged}
+use Rattle.session.proofs.Arrivals.{no-conflict, arrived-refused, arrived-merged}
 
 -- ---- one place
 
@@ -53,7 +53,7 @@ module _ (Q : ℕ) (apart : Q ≤ 254) where
 
   received-stored : (o : Place) → Symbol o → conflictAsMissing (storedValue o) ≡ receivedValue o
   received-stored missing small = refl
-  received-stored (symbol t u) small = rw (ne-eqb t 254 (λ e. omega (arith, small t u refl)))
+  received-stored (symbol t u) small = no-conflict t (λ e. omega (arith, small t u refl))
   received-stored (conflict u) small = refl
 
   module _ (s r : ℕ) (k : s < Q) where

@@ -1,8 +1,8 @@
 -- `text::hex_digit` meets its contract.
 -- Assumes nothing.
-use Prim.Native.Nat.{_%_}
-use borrow.Author.Tests.{lt-ltb, le-ltb}
+use mathlib.Core.Path.{sym}
 use borrow.Author.Needs.{needs}
+use Rattle.lines.proofs.Texts.{digit-low, digit-high}
 use Rattle.lines.proofs.text.hex_digit.Statement.{statement}
 use Rattle.lines.proofs.text.hex_digit.Tie as tie
 
@@ -13,10 +13,10 @@ add-result-2 : tie.Need-add-result-2
 add-result-2 c = search needs
 
 returns : tie.Need-returns
-returns c = rw (lt-ltb (c .before .args .value % 16) 10 (c .if1 .taken))
+returns c = sym (digit-low (c .before .args .value) (c .if1 .taken))
 
 returns-2 : tie.Need-returns-2
-returns-2 c = rw (le-ltb (c .before .args .value % 16) 10 (c .if1 .left))
+returns-2 c = sym (digit-high (c .before .args .value) (c .if1 .left))
 
 pub hex-digit-spec : {M : Type 1} → statement M
 hex-digit-spec = tie.close (tie.spec add-result add-result-2 returns returns-2)

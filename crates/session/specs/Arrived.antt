@@ -16,8 +16,8 @@ use Rattle.session.specs.declared.Reply.{Reply}
 abbrev pub usedPlaces : Session → List ℕ
 usedPlaces s = take (s .q * s .q * s .q) (s .places)
 
--- T-01: "the session stores 254 there" where two different symbols of the same round came, a conflict (the document says that the place is
--- struck out). "A struck place counts as missing": a stored value as the checks and recovery read it
+-- T-01: "the session stores 254 there" where two different symbols of the same round came, a conflict (document 02: the place is struck
+-- out). "A struck place counts as missing": a stored value as the checks and recovery read it
 abbrev pub conflictAsMissing : ℕ → ℕ
 conflictAsMissing x = cond (eqb x 254) 255 x
 

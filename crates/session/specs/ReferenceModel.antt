@@ -6,8 +6,8 @@ use Prim.Native.Nat.{ℕ, suc, _*_}
 use lib.Dec.{eqb, ltb}
 use lib.ListN.{getD, set, replicate}
 
--- A place is missing (the document: blank), or holds a symbol of a round, or is in conflict: two different symbols of the same round came
--- (the document: struck out). T-04: "The slate keeps rounds and follows the same rule" as the session.
+-- A place is missing (document 01: blank), or holds a symbol of a round, or is in conflict: two different symbols of the same round came
+-- (document 02: it is struck out). T-04: "The slate keeps rounds and follows the same rule" as the session.
 pub data Place : Type 0 where
   missing : Place
   symbol : ℕ → ℕ → Place
@@ -34,7 +34,7 @@ updated (conflict u) s r = cond (ltb u r) (symbol s r) (conflict u)
 abbrev pub inRange : ℕ → ℕ → ℕ → Bool
 inRange q p s = ltb p (q * q * q) && ltb s (q * q)
 
--- whatever the model holds (T-01), and whatever the round (T-04), every other arrival is accepted; the document says that the slate takes it
+-- whatever the model holds (T-01), and whatever the round (T-04), every other arrival is accepted (document 01: taken)
 unfoldable pub accepts : ℕ → Model → ℕ → ℕ → ℕ → Bool
 accepts q model p s r = inRange q p s
 

@@ -4,8 +4,8 @@ ghost use Prim.Native.Nat.{_≤_};
 use field::Outcome;
 use libc::STDIN_FILENO;
 use libc::STDOUT_FILENO;
+use session::Reply;
 use session::Session;
-use session::Turn;
 
 // The length of a slice in a record, which has room for 72 bytes.
 fn room(length: usize) -> usize
@@ -34,8 +34,8 @@ fn print_values(values: &[u8], after: u8) {
     let mut j = 0;
     let n = room(values.len());
     while j < n {
-        text[at] = lines::text::glyph(values[j] / 16);
-        text[at + 1] = lines::text::glyph(values[j]);
+        text[at] = lines::text::hex_digit(values[j] / 16);
+        text[at + 1] = lines::text::hex_digit(values[j]);
         at += 2;
         j += 1;
     }
@@ -110,10 +110,10 @@ fn raw_session(record: [u8; 160]) -> Session {
     }
 }
 
-fn session_turn(session: Session, record: [u8; 160]) -> Turn {
+fn session_reply(session: Session, record: [u8; 160]) -> Reply {
     match record[0] {
         b'o' => session::open(record[1], record[2]),
-        b's' => Turn {
+        b's' => Reply {
             session: raw_session(record),
             outcome: Outcome::Done,
         },
@@ -122,9 +122,9 @@ fn session_turn(session: Session, record: [u8; 160]) -> Turn {
 }
 
 fn session_case(session: Session, record: [u8; 160]) -> Session {
-    let turn = session_turn(session, record);
-    let next = turn.session;
-    let outcome = turn.outcome;
+    let reply = session_reply(session, record);
+    let next = reply.session;
+    let outcome = reply.outcome;
     let places = next.places;
     let rounds = next.rounds;
     print_answer(record[0], outcome);

@@ -8,7 +8,7 @@ use native.Mathlib.Decide.{decLt}
 use native.Mathlib.Omega.{arith}
 use borrow.Author.Tests.{lt-ltb, le-ltb}
 use lib.ListN.{length, set, length-append}
-use Rattle.lines.specs.Text.{decimalIn, decimal, Typed}
+use Rattle.lines.specs.Text.{decimalIn, decimal, Written}
 use Rattle.lines.proofs.Texts.{one-more}
 
 -- room for more digits changes nothing
@@ -44,7 +44,9 @@ length-decimalIn zero (suc j) n h = rw (lt-ltb n 10 h) (omega arith)
 length-decimalIn (suc k) (suc j) n h =
     elim (decLt n 10) [
       | yes l ↦ rw (lt-ltb n 10 l) (omega arith)
-      | no l ↦ rw (le-ltb n 10 (omega arith), length-append (decimalIn j (n / 10)) ((48 + n % 10) ∷ [])) (omega (arith, length-decimalIn k j (n / 10) (omega (arith, pow-suc 10 (suc k)))))
+      | no l ↦
+          rw (le-ltb n 10 (omega arith), length-append (decimalIn j (n / 10)) ((48 + n % 10) ∷ []))
+          (omega (arith, length-decimalIn k j (n / 10) (omega (arith, pow-suc 10 (suc k)))))
     ]
 
 -- what the machine's numbers take
@@ -57,16 +59,16 @@ unfolding decimal
 length-byte n h = length-decimalIn 2 (suc n) n (omega arith)
 
 -- a number of one digit is written
-pub small-typed : (l : List ℕ) (at n : ℕ) → n < 10 → Typed l at (decimal n) (at + 1) (set l at (48 + n))
-small-typed l at n h = rw (decimal-small n h) (record { ends = refl; holds = refl })
+pub small-written : (l : List ℕ) (at n : ℕ) → n < 10 → Written l at (decimal n) (at + 1) (set l at (48 + n))
+small-written l at n h = rw (decimal-small n h) (record { ends = refl; holds = refl })
 
 -- the last digit is written after the others
-pub large-typed :
+pub large-written :
     (l d : List ℕ) (at end n : ℕ) →
     10 ≤ n →
-    Typed l at (decimal (n / 10)) end d →
-    Typed l at (decimal n) (end + 1) (set d end (48 + n % 10))
-large-typed l d at end n h t =
+    Written l at (decimal (n / 10)) end d →
+    Written l at (decimal n) (end + 1) (set d end (48 + n % 10))
+large-written l d at end n h t =
     record {
       ends = omega (arith, length-large n h, t .ends);
       holds = rw (decimal-large n h) (one-more l d (decimal (n / 10)) at end (48 + n % 10) (t .holds) (t .ends));

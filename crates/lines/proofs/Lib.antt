@@ -1,5 +1,5 @@
 pub mod Texts
 pub mod Decimals
 pub mod Lines
-pub mod Sheets
-pub mod Verdicts
+pub mod Pages
+pub mod LastLines

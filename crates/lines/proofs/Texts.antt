@@ -1,14 +1,23 @@
--- Text written over a part of a list: one more character, and one text after another.
+-- Hexadecimal digits; text written over a part of a list: one more character, and one text after another.
 -- Assumes nothing.
 use mathlib.Core.Path.{_≡_, refl, sym, ap, _∙_}
 use mathlib.Core.List.{List, [], _∷_, _++_, map, map-append}
-use Prim.Native.Nat.{ℕ, suc, _+_, _<_}
+use Prim.Native.Nat.{ℕ, suc, _+_, _%_, _≤_, _<_}
 use native.Mathlib.Nat.{add-zero, add-suc, suc-add}
 use native.Mathlib.Numerals.{add-one}
 use native.Mathlib.Omega.{arith}
+use borrow.Author.Tests.{lt-ltb, le-ltb}
 use lib.ListN.{length, getD, take, set, length-append, length-map}
 use lib.Seq.{sets, take-suc, length-take-le}
-use Rattle.lines.specs.Text.{joined, Typed}
+use Rattle.lines.specs.Text.{hexDigit, joined, Written}
+
+-- a hexadecimal digit
+module _ (n : ℕ) where
+  pub digit-low : n % 16 < 10 → hexDigit n ≡ 48 + n % 16
+  digit-low l = rw (lt-ltb (n % 16) 10 l)
+
+  pub digit-high : 10 ≤ n % 16 → hexDigit n ≡ 87 + n % 16
+  digit-high l = rw (le-ltb (n % 16) 10 l)
 
 pub sets-append : (l : List ℕ) (at : ℕ) (s t : List ℕ) → sets l at (s ++ t) ≡ sets (sets l at s) (at + length s) t
 sets-append l at [] t = rw (add-zero at)
@@ -16,7 +25,7 @@ sets-append l at (x ∷ s) t = rw (add-suc at (length s), sets-append (set l at 
 
 -- one text, and another right after it
 pub next :
-    {a b c s t : List ℕ} {i j k : ℕ} → Typed a i s j b → Typed b j t k c → Typed a i (s ++ t) k c
+    {a b c s t : List ℕ} {i j k : ℕ} → Written a i s j b → Written b j t k c → Written a i (s ++ t) k c
 next {a} {b} {c} {s} {t} {i} {j} {k} p q = record {
   ends = omega (arith, p .ends, q .ends, length-append s t);
   holds = q .holds ∙ ap (λ (x : List ℕ). sets x j t) (p .holds) ∙ ap (λ (x : ℕ). sets (sets a i s) x t) (p .ends) ∙ sym (sets-append a i s t);
@@ -25,14 +34,14 @@ next {a} {b} {c} {s} {t} {i} {j} {k} p q = record {
 -- a loop that writes a text at each turn
 pub joined-more :
     (text : ℕ → List ℕ) {l d e : List ℕ} {at k used end : ℕ} →
-    Typed l at (joined text k) used d →
-    Typed d used (text k) end e →
-    Typed l at (joined text (k + 1)) end e
+    Written l at (joined text k) used d →
+    Written d used (text k) end e →
+    Written l at (joined text (k + 1)) end e
 unfolding joined
 joined-more text {k = k} p q = rw (add-one k) (next p q)
 
 -- no turn so far
-pub joined-none : (text : ℕ → List ℕ) (l : List ℕ) (at : ℕ) → Typed l at (joined text 0) at l
+pub joined-none : (text : ℕ → List ℕ) (l : List ℕ) (at : ℕ) → Written l at (joined text 0) at l
 unfolding joined
 joined-none text l at = record { ends = sym (add-zero at); holds = refl }
 
@@ -62,4 +71,5 @@ module _ (f : ℕ → ℕ) (l values : List ℕ) (at : ℕ) where
       set d end v ≡ sets l at (map f (take (j + 1) values))
   map-turn d j end v e h k g =
       rw (add-one j, take-suc values j 0 k, map-append f (take j values) (getD values j 0 ∷ []), g)
-      (one-more l d (map f (take j values)) at end (f (getD values j 0)) e (omega (arith, length-map (take j values) f, length-take-le j values (omega arith))))
+      (one-more l d (map f (take j values)) at end (f (getD values j 0)) e
+      (omega (arith, length-map (take j values) f, length-take-le j values (omega arith))))

@@ -7,11 +7,11 @@ use lib.ListN.{length, replicate, take, drop}
 use Rattle.field.specs.Outcomes.{number, second}
 use Rattle.code.specs.Answers.{Answer}
 use Rattle.code.specs.Recovered.{recovered}
-use Rattle.lines.specs.Text.{glyph, decimal, joined}
+use Rattle.lines.specs.Text.{hexDigit, decimal, joined}
 
 -- "the record's number in decimal .., a space, then `ok`, a space and 32 lower-case hexadecimal digits"
 unfoldable pub okLine : ℕ → List ℕ → List ℕ
-okLine n message = decimal n ++ ((32 ∷ 111 ∷ 107 ∷ 32 ∷ []) ++ (map glyph message ++ (10 ∷ [])))
+okLine n message = decimal n ++ ((32 ∷ 111 ∷ 107 ∷ 32 ∷ []) ++ (map hexDigit message ++ (10 ∷ [])))
 
 -- "or `no`, a space, the refusal number, a space, the second number, both decimal"
 unfoldable pub noLine : ℕ → ℕ → ℕ → List ℕ
@@ -34,5 +34,5 @@ abbrev pub numberedLine : ℕ → List ℕ → ℕ → List ℕ
 numberedLine first bytes k = lineOf (first + k) (take 64 (drop (64 * k) bytes))
 
 -- "a file is records end to end": the lines of all records, the first with the number `first`
-unfoldable pub pageOf : ℕ → List ℕ → List ℕ
-pageOf first bytes = joined (numberedLine first bytes) ((length bytes + 63) / 64)
+unfoldable pub linesOf : ℕ → List ℕ → List ℕ
+linesOf first bytes = joined (numberedLine first bytes) ((length bytes + 63) / 64)

@@ -8,8 +8,8 @@ use lib.ListN.{length}
 use lib.Seq.{sets}
 
 -- the last hexadecimal digit of n, in lower case
-abbrev pub glyph : ℕ → ℕ
-glyph n = cond (ltb (n % 16) 10) (48 + n % 16) (87 + n % 16)
+abbrev pub hexDigit : ℕ → ℕ
+hexDigit n = cond (ltb (n % 16) 10) (48 + n % 16) (87 + n % 16)
 
 -- the last k digits of n in decimal, without zeros before the first
 unfoldable pub decimalIn : ℕ → ℕ → List ℕ
@@ -26,6 +26,6 @@ joined text zero = []
 joined text (suc k) = joined text k ++ text k
 
 -- what a function leaves that writes a text from `at` on and answers the place after it; all else in the slice is as before
-pub record Typed (before : List ℕ) (at : ℕ) (text : List ℕ) (end : ℕ) (after : List ℕ) : Type 0 where
+pub record Written (before : List ℕ) (at : ℕ) (text : List ℕ) (end : ℕ) (after : List ℕ) : Type 0 where
   pub ends : end ≡ at + length text
   pub holds : after ≡ sets before at text

@@ -1,16 +1,16 @@
-// The text that the programs `blocks` (here) and `page` (`sheet`) print.
-pub mod sheet;
+// The text that the programs `blocks` (here) and `page` (module `page`) print.
+pub mod page;
 pub mod text;
 
 ghost use mathlib.Core.Path.{_≡_};
 ghost use Prim.Native.Nat.{_+_, _-_, _^_, _≤_, _<_};
 ghost use lib.ListN.{length, take, drop};
-ghost use Rattle.lines.specs.Text.{Typed};
-ghost use Rattle.lines.specs.Line.{okLine, noLine, shortLine, lineOf, pageOf};
+ghost use Rattle.lines.specs.Text.{Written};
+ghost use Rattle.lines.specs.Line.{okLine, noLine, shortLine, lineOf, linesOf};
 
 fn ok_line(number: usize, message: &[u8], at: usize, out: &mut [u8]) -> usize
     requires { ⌜ (length (now message) ≡ 32) × (at + 66 ≤ length (now out)) ⌝ }
-    ensures { λ r. ⌜ Typed (now (out .entry)) at (okLine number (now (message .entry))) r (now (out .exit)) × (r ≤ at + 66) ⌝ }
+    ensures { λ r. ⌜ Written (now (out .entry)) at (okLine number (now (message .entry))) r (now (out .exit)) × (r ≤ at + 66) ⌝ }
 {
     let a = text::decimal_then(number, &[b' ', b'o', b'k', b' '], at, out);
     let b = text::digits(message, a, out);
@@ -19,7 +19,7 @@ fn ok_line(number: usize, message: &[u8], at: usize, out: &mut [u8]) -> usize
 
 fn no_line(number: usize, refusal: u8, second: u8, at: usize, out: &mut [u8]) -> usize
     requires { ⌜ at + 66 ≤ length (now out) ⌝ }
-    ensures { λ r. ⌜ Typed (now (out .entry)) at (noLine number refusal second) r (now (out .exit)) × (r ≤ at + 66) ⌝ }
+    ensures { λ r. ⌜ Written (now (out .entry)) at (noLine number refusal second) r (now (out .exit)) × (r ≤ at + 66) ⌝ }
 {
     let a = text::decimal_then(number, &[b' ', b'n', b'o', b' '], at, out);
     let b = text::decimal_then(refusal as usize, &[b' '], a, out);
@@ -28,7 +28,7 @@ fn no_line(number: usize, refusal: u8, second: u8, at: usize, out: &mut [u8]) ->
 
 fn short_line(number: usize, size: usize, at: usize, out: &mut [u8]) -> usize
     requires { ⌜ at + 66 ≤ length (now out) ⌝ }
-    ensures { λ r. ⌜ Typed (now (out .entry)) at (shortLine number size) r (now (out .exit)) × (r ≤ at + 66) ⌝ }
+    ensures { λ r. ⌜ Written (now (out .entry)) at (shortLine number size) r (now (out .exit)) × (r ≤ at + 66) ⌝ }
 {
     let a = text::decimal_then(number, &[b' ', b's', b'h', b'o', b'r', b't', b' '], at, out);
     text::decimal_then(size, &[b'\n'], a, out)
@@ -37,7 +37,7 @@ fn short_line(number: usize, size: usize, at: usize, out: &mut [u8]) -> usize
 // The line of a record, written from `at` on; answers the place after it. 66 bytes hold any line.
 pub fn line(number: usize, block: &[u8], at: usize, out: &mut [u8]) -> usize
     requires { ⌜ at + 66 ≤ length (now out) ⌝ }
-    ensures { λ r. ⌜ Typed (now (out .entry)) at (lineOf number (now (block .entry))) r (now (out .exit)) × (r ≤ at + 66) ⌝ }
+    ensures { λ r. ⌜ Written (now (out .entry)) at (lineOf number (now (block .entry))) r (now (out .exit)) × (r ≤ at + 66) ⌝ }
 {
     let size = block.len();
     if size < 64 {
@@ -57,16 +57,17 @@ pub fn line(number: usize, block: &[u8], at: usize, out: &mut [u8]) -> usize
 // Where the block that begins at `at` ends.
 fn block_end(blocks: &[u8], at: usize) -> usize
     requires { ⌜ at ≤ length (now blocks) ⌝ }
-    ensures { λ r. ⌜ (at ≤ r) × (r ≤ length (now (blocks .entry))) × (take (r - at) (drop at (now (blocks .entry))) ≡ take 64 (drop at (now (blocks .entry)))) ⌝ }
+    ensures { λ r. ⌜ (at ≤ r) × (r ≤ length (now (blocks .entry)))
+        × (take (r - at) (drop at (now (blocks .entry))) ≡ take 64 (drop at (now (blocks .entry)))) ⌝ }
 {
     let rest = blocks.len() - at;
     if rest < 64 { blocks.len() } else { at + 64 }
 }
 
 // The lines of up to 1,024 records, the first with the number `first`, at the start of out; answers their length.
-pub fn page(first: usize, blocks: &[u8], out: &mut [u8]) -> usize
+pub fn block_lines(first: usize, blocks: &[u8], out: &mut [u8]) -> usize
     requires { ⌜ (length (now blocks) ≤ 65536) × (67584 ≤ length (now out)) × (first + 1024 < 2 ^ 64) ⌝ }
-    ensures { λ r. ⌜ Typed (now (out .entry)) 0 (pageOf first (now (blocks .entry))) r (now (out .exit)) × (r ≤ 67584) ⌝ }
+    ensures { λ r. ⌜ Written (now (out .entry)) 0 (linesOf first (now (blocks .entry))) r (now (out .exit)) × (r ≤ 67584) ⌝ }
 {
     let mut k = 0;
     let mut at = 0;

@@ -3,12 +3,12 @@ ghost use mathlib.Core.Path.{_≡_};
 ghost use mathlib.Core.List.{_++_, map};
 ghost use Prim.Native.Nat.{_+_, _≤_};
 ghost use lib.ListN.{length};
-ghost use Rattle.lines.specs.Text.{Typed};
-ghost use Rattle.lines.specs.Text.{glyph as Text·glyph, decimal as Text·decimal};
+ghost use Rattle.lines.specs.Text.{hexDigit, Written};
+ghost use Rattle.lines.specs.Text.{decimal as Text·decimal};
 
 pub fn bytes(text: &[u8], at: usize, out: &mut [u8]) -> usize
     requires { ⌜ at + length (now text) ≤ length (now out) ⌝ }
-    ensures { λ r. ⌜ Typed (now (out .entry)) at (now (text .entry)) r (now (out .exit)) ⌝ }
+    ensures { λ r. ⌜ Written (now (out .entry)) at (now (text .entry)) r (now (out .exit)) ⌝ }
 {
     let mut j = 0;
     let mut end = at;
@@ -21,8 +21,8 @@ pub fn bytes(text: &[u8], at: usize, out: &mut [u8]) -> usize
 }
 
 // The last hexadecimal digit of a byte, in lower case.
-pub fn glyph(value: u8) -> u8
-    ensures { λ r. ⌜ r ≡ Text·glyph value ⌝ }
+pub fn hex_digit(value: u8) -> u8
+    ensures { λ r. ⌜ r ≡ hexDigit value ⌝ }
 {
     let d = value % 16;
     if d < 10 { 48 + d } else { 87 + d }
@@ -31,12 +31,12 @@ pub fn glyph(value: u8) -> u8
 // One hexadecimal digit for each value.
 pub fn digits(values: &[u8], at: usize, out: &mut [u8]) -> usize
     requires { ⌜ at + length (now values) ≤ length (now out) ⌝ }
-    ensures { λ r. ⌜ Typed (now (out .entry)) at (map Text·glyph (now (values .entry))) r (now (out .exit)) ⌝ }
+    ensures { λ r. ⌜ Written (now (out .entry)) at (map hexDigit (now (values .entry))) r (now (out .exit)) ⌝ }
 {
     let mut j = 0;
     let mut end = at;
     while j < values.len() {
-        out[end] = glyph(values[j]);
+        out[end] = hex_digit(values[j]);
         end += 1;
         j += 1;
     }
@@ -45,7 +45,7 @@ pub fn digits(values: &[u8], at: usize, out: &mut [u8]) -> usize
 
 pub fn decimal(n: usize, at: usize, out: &mut [u8]) -> usize
     requires { ⌜ at + length (Text·decimal n) ≤ length (now out) ⌝ }
-    ensures { λ r. ⌜ Typed (now (out .entry)) at (Text·decimal n) r (now (out .exit)) ⌝ }
+    ensures { λ r. ⌜ Written (now (out .entry)) at (Text·decimal n) r (now (out .exit)) ⌝ }
 {
     if n < 10 {
         out[at] = 48 + n as u8;
@@ -59,7 +59,8 @@ pub fn decimal(n: usize, at: usize, out: &mut [u8]) -> usize
 // A number and the text that follows it. No number takes more than 20 bytes.
 pub fn decimal_then(n: usize, text: &[u8], at: usize, out: &mut [u8]) -> usize
     requires { ⌜ at + (20 + length (now text)) ≤ length (now out) ⌝ }
-    ensures { λ r. ⌜ Typed (now (out .entry)) at (Text·decimal n ++ now (text .entry)) r (now (out .exit)) × (r ≤ at + (20 + length (now (text .entry)))) ⌝ }
+    ensures { λ r. ⌜ Written (now (out .entry)) at (Text·decimal n ++ now (text .entry)) r (now (out .exit))
+        × (r ≤ at + (20 + length (now (text .entry)))) ⌝ }
 {
     let end = decimal(n, at, out);
     bytes(text, end, out)

@@ -6,27 +6,32 @@ use mathlib.Core.Logic.{inl, inr}
 use mathlib.Core.Path.{_≡_, refl, sym, ap, _∙_}
 use Prim.Native.Nat.{ℕ, _*_, _≤_, _<_}
 use native.Mathlib.Omega.{arith}
-use borrow.Author.Tests.{lt-leb, le-leb, lt-ltb, le-ltb, leb-false}
+use borrow.Author.Tests.{eq-eqb, ne-eqb, lt-leb, le-leb, lt-ltb, le-ltb, leb-false}
 use lib.Dec.{eqb, leb, ltb}
 use lib.ListN.{length, getD, take, drop, length-map, length-append}
 use lib.Seq.{length-take-le, take-at}
-use Rattle.field.specs.Curve.{isCurve, IsCurve}
+use Rattle.field.specs.Curve.{isCurve, IsCurve, curveOf}
+use Rattle.field.specs.declared.curve.Curve.{Curve}
 use Rattle.field.specs.Outcomes.{number, refuse}
 use Rattle.field.specs.declared.outcome.Outcome.{Outcome}
-use Rattle.field.specs.declared.outcome.Outcome.the-variants.{Done, BadCurve, BadOrder, BadValue, BadPlace, BadSymbol}
+use Rattle.field.specs.declared.outcome.Outcome.the-variants.{Done, BadCurve, BadValue, BadPlace, BadSymbol}
+use Rattle.field.proofs.Curves.{curve-true, curve-of-true, sizes}
 use Rattle.field.proofs.Outcomes.{passed}
 use Rattle.poly.proofs.Bools.{true-or-false}
 use Rattle.code.specs.Terms.{size}
-use Rattle.code.specs.Checks.{orderChecks, badValue, firstBad, valueCheck, sliceChecks}
+use Rattle.code.specs.Checks.{orderChecks, badValue, firstBad, sliceChecks}
 use Rattle.code.specs.Answers.{answered}
 use Rattle.code.specs.Recovered.{recovered}
-use Rattle.code.proofs.Checks.{order-rest, order-curve, order-high, order-passed}
+use Rattle.code.proofs.Answers.{Refused, order-refused}
+use Rattle.code.proofs.Checks.{order-rest, order-curve, order-passed}
 use Rattle.code.proofs.Recoveries.{recovered-refused}
-use Rattle.session.specs.declared.Kept.{Kept}
+use Rattle.session.specs.declared.ReceivedWord.{ReceivedWord}
+use Rattle.session.specs.declared.Stored.{Stored}
 use Rattle.session.specs.declared.Session.{Session}
-use Rattle.session.specs.Opened.{fresh, opened}
-use Rattle.session.specs.Arrived.{cleared, standing, kept, arrivalChecks, turn, with, arrived}
+use Rattle.session.specs.Opened.{emptySession, opened}
+use Rattle.session.specs.Arrived.{conflictAsMissing, receivedWord, stored, merged, arrivalChecks, reply, withStored, arrived}
 use Rattle.session.specs.Asked.{asked}
+use Rattle.session.specs.inner.WordRead.{wordRead}
 
 -- ---- opening
 
@@ -35,28 +40,90 @@ unfolding opened
 opened-outcome q m = refl
 
 module _ (q m : ℕ) (o : Outcome) (is : o ≡ orderChecks q m Done) where
-  pub opened-done : o ≡ Done → opened q m ≡ turn (fresh q m) o
+  pub opened-done : o ≡ Done → opened q m ≡ reply (emptySession q m) o
   unfolding opened
   opened-done e = rw (← is, e)
 
-  pub opened-refused : eqb (number o) 0 ≡ false → opened q m ≡ turn (fresh 2 0) o
+  pub opened-refused : eqb (number o) 0 ≡ false → opened q m ≡ reply (emptySession 2 0) o
   unfolding opened
   opened-refused e = rw (← is, e)
 
--- ---- the places that were lent, as the first n of a list, to be cleared
+-- ---- one place
 
-module _ (n : ℕ) (l back : List ℕ) (room : n ≤ length l) (is : back ≡ map cleared (take n l)) where
-  length-back : length back ≡ n
-  length-back = ap length is ∙ length-map (take n l) cleared ∙ length-take-le n l room
+pub conflict-missing : (x : ℕ) → x ≡ 254 → conflictAsMissing x ≡ 255
+conflict-missing x e = rw (eq-eqb x 254 e)
 
-  pub cleared-room : n ≤ length (back ++ drop n l)
-  cleared-room = omega (arith, length-append back (drop n l), length-back)
+pub no-conflict : (x : ℕ) → (x ≡ 254 → ⊥) → conflictAsMissing x ≡ x
+no-conflict x n = rw (ne-eqb x 254 n)
 
-  pub cleared-take : take n (back ++ drop n l) ≡ map cleared (take n l)
-  cleared-take = take-at back (drop n l) n length-back ∙ is
+module _ (old oldRound symbol round : ℕ) where
+  abbrev then : Stored
+  then = merged old oldRound symbol round
 
-  pub cleared-long : n ≡ length (take n (back ++ drop n l))
-  cleared-long = sym (length-take-le n (back ++ drop n l) cleared-room)
+  pub merged-missing : old ≡ 255 → then ≡ stored symbol round
+  merged-missing e = rw (eq-eqb old 255 e)
+
+  module _ (n : old ≡ 255 → ⊥) where
+    pub merged-higher : oldRound < round → then ≡ stored symbol round
+    merged-higher l = rw (ne-eqb old 255 n, lt-ltb oldRound round l)
+
+    pub merged-lower : round < oldRound → then ≡ stored old oldRound
+    merged-lower l = rw (ne-eqb old 255 n, le-ltb oldRound round (omega arith), lt-ltb round oldRound l)
+
+    module _ (a : round ≤ oldRound) (b : oldRound ≤ round) where
+      pub merged-same : old ≡ symbol → then ≡ stored old oldRound
+      merged-same e = rw (ne-eqb old 255 n, le-ltb oldRound round a, le-ltb round oldRound b, eq-eqb old symbol e)
+
+      pub merged-conflict : (old ≡ symbol → ⊥) → then ≡ stored 254 oldRound
+      merged-conflict d = rw (ne-eqb old 255 n, le-ltb oldRound round a, le-ltb round oldRound b, ne-eqb old symbol d)
+
+-- ---- the word that is read
+
+module _ (s : Session) where
+  abbrev n : ℕ
+  n = s .q * s .q * s .q
+
+  pub read-none : isCurve (s .q) ≡ false → wordRead s ≡ record { points = 0; symbols = 0; places = s .places }
+  read-none e = rw e
+
+  read-curve : IsCurve (s .q)
+      → wordRead s ≡ record { points = n; symbols = s .q * s .q; places = receivedWord s ++ drop n (s .places) }
+  read-curve c = rw (curve-true (s .q) c)
+
+  -- the first n places were lent, and came back without conflicts
+  pub read-cleared : (v : Curve) → IsCurve (s .q) → v ≡ curveOf (s .q) → (back : List ℕ) → back ≡ map conflictAsMissing (take (v .points) (s .places))
+      → record { points = v .points; symbols = v .symbols; places = back ++ drop (v .points) (s .places) } ≡ wordRead s
+  read-cleared v c f back is = rw (is, f) (sym (read-curve c))
+
+module _ (s : Session) (long : length (s .places) ≡ 64) where
+  room : IsCurve (s .q) → n s ≤ length (s .places)
+  room c = omega (arith, sizes (s .q) c .points, long)
+
+  length-word : IsCurve (s .q) → length (receivedWord s) ≡ n s
+  length-word c = length-map (take (n s) (s .places)) conflictAsMissing ∙ length-take-le (n s) (s .places) (room c)
+
+  module _ (w : ReceivedWord) (is : w ≡ wordRead s) where
+    -- of a curve's session
+    pub record Read : Type 0 where
+      pub is-n : w .points ≡ n s
+      pub is-Q : w .symbols ≡ s .q * s .q
+      pub word : take (w .points) (w .places) ≡ receivedWord s
+
+    pub reads : IsCurve (s .q) → Read
+    reads c =
+        let e = is ∙ read-curve s c in
+        record {
+          is-n = ap (λ (v : ReceivedWord). v .points) e;
+          is-Q = ap (λ (v : ReceivedWord). v .symbols) e;
+          word = rw e (take-at (receivedWord s) (drop (n s) (s .places)) (n s) (length-word c));
+        }
+
+    pub read-room : w .points ≤ length (w .places)
+    read-room = elim (true-or-false (isCurve (s .q))) [
+      | inl t ↦ let c = curve-of-true (s .q) t in
+          rw (is ∙ read-curve s c) (omega (arith, length-append (receivedWord s) (drop (n s) (s .places)), length-word c))
+      | inr t ↦ rw (is ∙ read-none s t) (omega arith)
+    ]
 
 -- ---- the checks of an arrival
 
@@ -65,16 +132,17 @@ module _ (s : Session) (place symbol : ℕ) where
   abbrev last : (n Q : ℕ) → Outcome
   last n Q = refuse (leb n place) BadPlace (refuse (leb Q symbol) BadSymbol Done)
 
+  -- what the search for a bad value is to find
+  abbrev bad : ℕ
+  bad = firstBad (badValue true (s .q * s .q)) (receivedWord s)
+
   abbrev values : Outcome
-  values = valueCheck true (s .q * s .q) (standing s) (last (s .q * s .q * s .q) (s .q * s .q))
+  values = refuse (ltb bad (length (receivedWord s))) (BadValue bad) (last (s .q * s .q * s .q) (s .q * s .q))
 
-  pub checks-curve : isCurve (s .q) ≡ false → arrivalChecks s place symbol ≡ BadCurve
+  pub checks-order : (o : Outcome) → o ≡ orderChecks (s .q) (s .m) Done → Refused o
+      → o ≡ arrivalChecks s place symbol
   unfolding arrivalChecks
-  checks-curve e = order-curve (s .q) (s .m) values e
-
-  pub checks-order : IsCurve (s .q) → s .q * s .q * s .q ≤ s .m → arrivalChecks s place symbol ≡ BadOrder
-  unfolding arrivalChecks
-  checks-order c l = order-high (s .q) (s .m) values c l
+  checks-order o e r = order-refused (s .q) (s .m) o e r values
 
   -- past 1 and 2: n and Q are the curve's, and w is what the search for a bad value found
   pub record Searched (n Q w : ℕ) : Type 0 where
@@ -82,15 +150,15 @@ module _ (s : Session) (place symbol : ℕ) where
     pub is-n : n ≡ s .q * s .q * s .q
     pub is-Q : Q ≡ s .q * s .q
     pub order : s .m < n
-    pub room : n ≤ length (s .places)
-    pub is-w : w ≡ firstBad (badValue true Q) (map cleared (take n (s .places)))
+    pub long : length (s .places) ≡ 64
+    pub is-w : w ≡ bad
 
   module _ (n Q w : ℕ) (h : Searched n Q w) where
     past-order : arrivalChecks s place symbol ≡ refuse (ltb w n) (BadValue w) (last n Q)
     unfolding arrivalChecks
     past-order =
         order-passed (s .q) (s .m) values (h .is-curve) (omega (arith, h .order, h .is-n))
-        ∙ rw (← h .is-n, ← h .is-Q, ← h .is-w, length-map (take n (s .places)) cleared, length-take-le n (s .places) (h .room))
+        ∙ rw (← h .is-w, length-word s (h .long) (h .is-curve), ← h .is-n, ← h .is-Q)
 
     pub checks-value : w < n → arrivalChecks s place symbol ≡ BadValue w
     checks-value a = past-order ∙ rw (lt-ltb w n a)
@@ -110,9 +178,8 @@ module _ (s : Session) (place symbol : ℕ) where
   checked-place e =
       let n = s .q * s .q * s .q in
       let Q = s .q * s .q in
-      let w = firstBad (badValue true Q) (standing s) in
       let a = order-rest (s .q) (s .m) values e in
-      let b = passed (ltb w (length (standing s))) (last n Q) (BadValue w) (λ p. omega (arith, ap number p)) (a .2) in
+      let b = passed (ltb bad (length (receivedWord s))) (last n Q) (BadValue bad) (λ p. omega (arith, ap number p)) (a .2) in
       let d = passed (leb n place) (refuse (leb Q symbol) BadSymbol Done) BadPlace (λ p. omega (arith, ap number p)) (b .1) in
       (a .0, leb-false n place (d .0))
 
@@ -120,15 +187,15 @@ module _ (s : Session) (place symbol : ℕ) where
 
   module _ (round : ℕ) where
     pub arrived-refused : (o : Outcome) → arrivalChecks s place symbol ≡ o → eqb (number o) 0 ≡ false
-        → arrived s place symbol round ≡ turn s o
+        → arrived s place symbol round ≡ reply s o
     unfolding arrived
     arrived-refused o e n = rw (e, n)
 
-    pub arrived-kept : (o : Outcome) → o ≡ arrivalChecks s place symbol → o ≡ Done
-        → (k : Kept) → k ≡ kept (getD (s .places) place 0) (getD (s .rounds) place 0) symbol round
-        → arrived s place symbol round ≡ turn (with s place k) o
+    pub arrived-merged : (o : Outcome) → o ≡ arrivalChecks s place symbol → o ≡ Done
+        → (k : Stored) → k ≡ merged (getD (s .places) place 0) (getD (s .rounds) place 0) symbol round
+        → arrived s place symbol round ≡ reply (withStored s place k) o
     unfolding arrived
-    arrived-kept o is e k f = rw (← is, e, f)
+    arrived-merged o is e k f = rw (← is, e, f)
 
 -- "or as it came": whatever the session, a refused arrival changes nothing
 pub arrived-as-it-came : (s : Session) (place symbol round : ℕ) → eqb (number (arrived s place symbol round .outcome)) 0 ≡ false
@@ -143,12 +210,17 @@ arrived-as-it-came s place symbol round e =
 -- ---- asking
 
 module _ (s : Session) (slice : List ℕ) where
-  pub asked-curve : isCurve (s .q) ≡ false → asked s slice ≡ answered BadCurve slice
-  unfolding asked
-  asked-curve e =
-      recovered-refused (s .q) (s .m) (standing s) slice BadCurve
-      (order-curve (s .q) (s .m) (sliceChecks true (s .q * s .q) (s .q * s .q * s .q) (standing s) (size (s .q) (s .m)) (length slice) Done) e) refl
+  refused-curve : isCurve (s .q) ≡ false → (v : List ℕ) → recovered (s .q) (s .m) v slice ≡ answered BadCurve slice
+  refused-curve e v =
+      recovered-refused (s .q) (s .m) v slice BadCurve
+      (order-curve (s .q) (s .m) (sliceChecks true (s .q * s .q) (s .q * s .q * s .q) v (size (s .q) (s .m)) (length slice) Done) e) refl
 
-  pub asked-recovered : (n : ℕ) → n ≡ s .q * s .q * s .q → asked s slice ≡ recovered (s .q) (s .m) (map cleared (take n (s .places))) slice
+  -- recovery from the word that is read; where q names no curve, whatever that is
+  pub asked-recovered : length (s .places) ≡ 64 → (w : ReceivedWord) → w ≡ wordRead s
+      → asked s slice ≡ recovered (s .q) (s .m) (take (w .points) (w .places)) slice
   unfolding asked
-  asked-recovered n e = rw e
+  asked-recovered long w is = elim (true-or-false (isCurve (s .q))) [
+    | inl t ↦
+        ap (λ (v : List ℕ). recovered (s .q) (s .m) v slice) (sym (reads s long w is (curve-of-true (s .q) t) .word))
+    | inr t ↦ refused-curve t (receivedWord s) ∙ sym (refused-curve t (take (w .points) (w .places)))
+  ]

@@ -1,9 +1,8 @@
 pub mod Arrivals
 pub mod Replays
 pub mod Steps
-pub mod Held
-pub mod SlateReadings
+pub mod SymbolPlaces
+pub mod ModelReadings
 pub mod Askings
 pub mod Demand
 pub mod Orders
-pub mod Values

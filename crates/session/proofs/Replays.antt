@@ -14,7 +14,7 @@ use Rattle.field.specs.declared.outcome.Outcome.the-variants.{Done}
 use Rattle.code.specs.Answers.{answered}
 use Rattle.code.proofs.Answers.{refused, not-refused}
 use Rattle.session.specs.declared.Session.{Session}
-use Rattle.session.specs.declared.Turn.{Turn}
+use Rattle.session.specs.declared.Reply.{Reply}
 use Rattle.session.specs.Opened.{opened}
 use Rattle.session.specs.Arrived.{arrived}
 use Rattle.session.specs.Asked.{asked}
@@ -23,13 +23,16 @@ use Rattle.session.specs.Replayed.{decoded, replayed}
 
 -- what is left of the list from `at` on: one more arrival, or none
 module _ (s : Session) (list : List ℕ) (at : ℕ) where
-  pub receive-turn : at + 2 < length list → (t : Turn) → t ≡ arrived s (getD list at 0) (getD list (at + 1) 0) (getD list (at + 2) 0)
+  pub receive-next : at + 2 < length list → (t : Reply) → t ≡ arrived s (getD list at 0) (getD list (at + 1) 0) (getD list (at + 2) 0)
       → sessionFrom s (decoded (drop at list)) ≡ sessionFrom (t .session) (decoded (drop (at + 3) list))
   unfolding sessionFrom decoded
-  receive-turn l t e =
+  receive-next l t e =
       let two : at + 2 ≡ suc (suc at) = omega arith in
       let three : at + 3 ≡ suc (suc (suc at)) = omega arith in
-      rw (e, add-one at, two, three, drop-cons list at 0 (omega arith), drop-cons list (suc at) 0 (omega arith), drop-cons list (suc (suc at)) 0 (omega arith))
+      let first = drop-cons list at 0 (omega arith) in
+      let second = drop-cons list (suc at) 0 (omega arith) in
+      let third = drop-cons list (suc (suc at)) 0 (omega arith) in
+      rw (e, add-one at, two, three, first, second, third)
 
   short : (rest : List ℕ) → length rest ≤ 2 → sessionFrom s (decoded rest) ≡ s
   unfolding sessionFrom decoded
@@ -41,8 +44,8 @@ module _ (s : Session) (list : List ℕ) (at : ℕ) where
   pub receive-end : length list - at ≤ 2 → sessionFrom s (decoded (drop at list)) ≡ s
   receive-end l = short (drop at list) (rw (length-drop at list) l)
 
--- the turn that opening hands back, and the session after the arrivals
-module _ (q m : ℕ) (arrivals slice : List ℕ) (t : Turn) (is : t ≡ opened q m) where
+-- the reply to opening, and the session after the arrivals
+module _ (q m : ℕ) (arrivals slice : List ℕ) (t : Reply) (is : t ≡ opened q m) where
   pub replayed-asked : t .outcome ≡ Done → (s : Session) → s ≡ sessionFrom (t .session) (decoded arrivals)
       → replayed q m arrivals slice ≡ asked s slice
   unfolding replayed

@@ -1,7 +1,8 @@
 pub mod Opened
 pub mod Arrived
 pub mod Asked
-pub mod Slate
+pub mod ReferenceModel
 pub mod Claim
 pub mod Reordered
 pub mod Replayed
+pub mod inner

@@ -7,14 +7,14 @@ use Rattle.field.specs.Outcomes.{number}
 use Rattle.field.specs.declared.outcome.Outcome.the-variants.{Done}
 use Rattle.code.specs.Checks.{orderChecks}
 use Rattle.session.specs.declared.Session.{Session}
-use Rattle.session.specs.declared.Turn.{Turn}
+use Rattle.session.specs.declared.Reply.{Reply}
 
 -- "A session holds q, m and 64 places. Opening marks all 64 missing." T-04: "A place that holds 255 has round 0".
-abbrev pub fresh : ℕ → ℕ → Session
-fresh q m = record { q = q; m = m; places = replicate 64 255; rounds = replicate 64 0 }
+abbrev pub emptySession : ℕ → ℕ → Session
+emptySession q m = record { q = q; m = m; places = replicate 64 255; rounds = replicate 64 0 }
 
 -- 1, 2. "A refused opening hands back q = 2, m = 0, all places 255."
-unfoldable pub opened : ℕ → ℕ → Turn
+unfoldable pub opened : ℕ → ℕ → Reply
 opened q m =
     let outcome = orderChecks q m Done in
-    record { session = cond (eqb (number outcome) 0) (fresh q m) (fresh 2 0); outcome = outcome }
+    record { session = cond (eqb (number outcome) 0) (emptySession q m) (emptySession 2 0); outcome = outcome }

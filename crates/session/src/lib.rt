@@ -3,15 +3,16 @@ pub mod replay;
 
 ghost use mathlib.Core.List.{map};
 ghost use mathlib.Core.Path.{_≡_};
-ghost use Rattle.session.specs.Opened.{fresh, opened};
-ghost use Rattle.session.specs.Arrived.{cleared, kept, arrivalChecks, arrived};
+ghost use Rattle.session.specs.Opened.{emptySession, opened};
+ghost use Rattle.session.specs.Arrived.{conflictAsMissing, merged, arrivalChecks, arrived};
 ghost use Rattle.session.specs.Asked.{asked};
+ghost use Rattle.session.specs.inner.WordRead.{wordRead};
 use field::Curve;
 use field::Named;
 use field::Outcome;
 
-// q, m and for each place the symbol of the highest round that came, 255 where none did and 254 where two of that round
-// differed, and that round. Places from n on are never read, nor their rounds.
+// q, m and for each place the symbol of the highest round received there, and that round: 255 and 0 where none was, and 254 where
+// two symbols of that round differed, a conflict. Places from n on are never read, nor their rounds.
 pub struct Session {
     pub q: u8,
     pub m: u8,
@@ -20,14 +21,14 @@ pub struct Session {
 }
 
 // What an opening or an arrival hands back.
-pub struct Turn {
+pub struct Reply {
     pub session: Session,
     pub outcome: Outcome,
 }
 
-// A session that has heard nothing.
-fn fresh_of(q: u8, m: u8) -> Session
-    ensures { λ r. ⌜ r ≡ fresh q m ⌝ }
+// A session that has received nothing.
+fn empty_session(q: u8, m: u8) -> Session
+    ensures { λ r. ⌜ r ≡ emptySession q m ⌝ }
 {
     Session {
         q,
@@ -37,135 +38,146 @@ fn fresh_of(q: u8, m: u8) -> Session
     }
 }
 
-pub fn open(q: u8, m: u8) -> Turn
+pub fn open(q: u8, m: u8) -> Reply
     ensures { λ r. ⌜ r ≡ opened q m ⌝ }
 {
     let outcome = code::check::order(q, m as usize);
     if let Outcome::Done = outcome {
-        let session = fresh_of(q, m);
-        Turn { session, outcome }
+        let session = empty_session(q, m);
+        Reply { session, outcome }
     } else {
-        let session = fresh_of(2, 0);
-        Turn { session, outcome }
+        let session = empty_session(2, 0);
+        Reply { session, outcome }
     }
 }
 
-// What a place holds, and of which round.
-struct Kept {
-    holds: u8,
+// What is stored for a place.
+struct Stored {
+    value: u8,
     round: u8,
 }
 
-// What a place that holds `held`, `highest` being its round, then holds where a symbol of a round arrives.
-fn keep(held: u8, highest: u8, symbol: u8, round: u8) -> Kept
-    ensures { λ r. ⌜ r ≡ kept held highest symbol round ⌝ }
+// What is stored for a place, where `old` of `old_round` was, once a symbol of a round arrives there.
+fn merge(old: u8, old_round: u8, symbol: u8, round: u8) -> Stored
+    ensures { λ r. ⌜ r ≡ merged old «old_round» symbol round ⌝ }
 {
-    let came = Kept {
-        holds: symbol,
+    let received = Stored {
+        value: symbol,
         round,
     };
-    let was = Kept {
-        holds: held,
-        round: highest,
+    let unchanged = Stored {
+        value: old,
+        round: old_round,
     };
-    if held == 255 {
-        return came;
+    let conflict = Stored {
+        value: 254,
+        round: old_round,
+    };
+    if old == 255 {
+        return received;
     }
-    if highest < round {
-        return came;
+    if old_round < round {
+        return received;
     }
-    if round < highest {
-        return was;
+    if round < old_round {
+        return unchanged;
     }
-    if held == symbol {
-        return was;
-    }
-    Kept {
-        holds: 254,
-        round: highest,
-    }
+    if old == symbol { unchanged } else { conflict }
 }
 
-fn cleared_of(x: u8) -> u8
-    ensures { λ r. ⌜ r ≡ cleared x ⌝ }
+fn conflict_as_missing(x: u8) -> u8
+    ensures { λ r. ⌜ r ≡ conflictAsMissing x ⌝ }
 {
     if x == 254 { 255 } else { x }
 }
 
-// Struck places become missing ones.
-fn clear(places: &mut [u8])
-    ensures { λ _. ⌜ now (places .exit) ≡ map cleared (now (places .entry)) ⌝ }
+// Places in conflict become missing ones.
+fn clear_conflicts(places: &mut [u8])
+    ensures { λ _. ⌜ now (places .exit) ≡ map conflictAsMissing (now (places .entry)) ⌝ }
 {
     let mut i = 0;
     while i < places.len() {
-        places[i] = cleared_of(places[i]);
+        places[i] = conflict_as_missing(places[i]);
         i += 1;
     }
 }
 
+// What the checks and recovery read of a session: n, Q, and the places, of which the first n are the received word.
+struct ReceivedWord {
+    points: usize,
+    symbols: u8,
+    places: [u8; 64],
+}
+
 impl Session {
+    // Where q names no curve, n is 0.
+    fn received_word(self) -> ReceivedWord
+        ensures { λ r. ⌜ r ≡ wordRead self ⌝ }
+    {
+        let mut places = self.places;
+        let Named::Is(curve) = Curve::of(self.q) else {
+            return ReceivedWord {
+                points: 0,
+                symbols: 0,
+                places,
+            };
+        };
+        let points = curve.points;
+        clear_conflicts(&mut places[..points]);
+        ReceivedWord {
+            points,
+            symbols: curve.symbols,
+            places,
+        }
+    }
+
     // The checks 1, 2, 4, 6 and 7 of an arrival.
     fn check(self, place: u8, symbol: u8) -> Outcome
         ensures { λ r. ⌜ r ≡ arrivalChecks self place symbol ⌝ }
     {
-        let q = self.q;
-        let m = self.m as usize;
-        let Named::Is(curve) = Curve::of(q) else {
-            return Outcome::BadCurve;
+        let first = code::check::order(self.q, self.m as usize);
+        let Outcome::Done = first else {
+            return first;
         };
-        let n = curve.points;
-        if n <= m {
-            return Outcome::BadOrder;
-        }
-        let size = curve.symbols;
-        let mut places = self.places;
-        clear(&mut places[..n]);
-        let bad = code::check::first_bad(true, size, &places[..n]);
+        let word = self.received_word();
+        let n = word.points;
+        let places = word.places;
+        let bad = code::check::first_bad(true, word.symbols, &places[..n]);
         if bad < n {
             return Outcome::BadValue(bad as u8);
         }
         if n <= place as usize {
             return Outcome::BadPlace;
         }
-        if size <= symbol {
+        if word.symbols <= symbol {
             return Outcome::BadSymbol;
         }
         Outcome::Done
     }
 
-    pub fn arrive(mut self, place: u8, symbol: u8, round: u8) -> Turn
+    pub fn arrive(mut self, place: u8, symbol: u8, round: u8) -> Reply
         ensures { λ r. ⌜ r ≡ arrived self place symbol round ⌝ }
     {
         let checked = self.check(place, symbol);
         if let Outcome::Done = checked {
             let at = place as usize;
-            let kept = keep(self.places[at], self.rounds[at], symbol, round);
-            self.places[at] = kept.holds;
-            self.rounds[at] = kept.round;
-            Turn {
-                session: self,
-                outcome: checked,
-            }
-        } else {
-            Turn {
-                session: self,
-                outcome: checked,
-            }
+            let stored = merge(self.places[at], self.rounds[at], symbol, round);
+            self.places[at] = stored.value;
+            self.rounds[at] = stored.round;
+        }
+        Reply {
+            session: self,
+            outcome: checked,
         }
     }
 
-    // Recovery from the stored q, m and first n places, a struck one being missing.
+    // Recovery from the stored q, m and first n places, one in conflict being missing.
     pub fn ask(self, message: &mut [u8]) -> Outcome
         ensures { λ r. ⌜ asked self (now (message .entry)) ≡ record { outcome = r; slice = now (message .exit) } ⌝ }
     {
-        let q = self.q;
-        let m = self.m;
-        let Named::Is(curve) = Curve::of(q) else {
-            return Outcome::BadCurve;
-        };
-        let n = curve.points;
-        let mut places = self.places;
-        clear(&mut places[..n]);
-        code::recovery::recover(q, m, &places[..n], message)
+        let word = self.received_word();
+        let n = word.points;
+        let places = word.places;
+        code::recovery::recover(self.q, self.m, &places[..n], message)
     }
 }

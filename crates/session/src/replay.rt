@@ -11,8 +11,8 @@ fn receive(mut session: Session, arrivals: &[u8]) -> Session
 {
     let mut at = 0;
     while 2 < arrivals.len() - at {
-        let turn = session.arrive(arrivals[at], arrivals[at + 1], arrivals[at + 2]);
-        session = turn.session;
+        let reply = session.arrive(arrivals[at], arrivals[at + 1], arrivals[at + 2]);
+        session = reply.session;
         at += 3;
     }
     session

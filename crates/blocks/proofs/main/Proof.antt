@@ -14,8 +14,8 @@ abbrev μ-loop : tie.MeasureT-loop
 loop-holds : tie.Need-loop-holds Inv-loop μ-loop
 loop-holds c = tt
 
-print-page-requires : tie.Need-print-page-requires Inv-loop μ-loop
-print-page-requires c κs = omega arith
+print-lines-requires : tie.Need-print-lines-requires Inv-loop μ-loop
+print-lines-requires c κs = omega arith
 
 add-first : tie.Need-add-first Inv-loop μ-loop
 add-first c = omega arith
@@ -39,7 +39,7 @@ main-spec =
     Inv-loop
     μ-loop
     loop-holds
-    print-page-requires
+    print-lines-requires
     add-first
     loop-less
     loop-again

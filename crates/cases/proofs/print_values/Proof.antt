@@ -20,20 +20,20 @@ room-requires c κs = tt
 loop-holds : tie.Need-loop-holds Inv-loop μ-loop
 loop-holds c = (refl, omega arith, refl)
 
-shared-slice-read-glyph : tie.Need-shared-slice-read-glyph Inv-loop μ-loop
-shared-slice-read-glyph c = omega arith
+shared-slice-read-hex-digit : tie.Need-shared-slice-read-hex-digit Inv-loop μ-loop
+shared-slice-read-hex-digit c = omega arith
 
-glyph-requires : tie.Need-glyph-requires Inv-loop μ-loop
-glyph-requires c κs = tt
+hex-digit-requires : tie.Need-hex-digit-requires Inv-loop μ-loop
+hex-digit-requires c κs = tt
 
 array-write-text : tie.Need-array-write-text Inv-loop μ-loop
 array-write-text c = omega arith
 
-shared-slice-read-glyph-2 : tie.Need-shared-slice-read-glyph-2 Inv-loop μ-loop
-shared-slice-read-glyph-2 c = omega arith
+shared-slice-read-hex-digit-2 : tie.Need-shared-slice-read-hex-digit-2 Inv-loop μ-loop
+shared-slice-read-hex-digit-2 c = omega arith
 
-glyph-requires-2 : tie.Need-glyph-requires-2 Inv-loop μ-loop
-glyph-requires-2 c κs = tt
+hex-digit-requires-2 : tie.Need-hex-digit-requires-2 Inv-loop μ-loop
+hex-digit-requires-2 c κs = tt
 
 add-text : tie.Need-add-text Inv-loop μ-loop
 add-text c = omega arith
@@ -76,11 +76,11 @@ print-values-spec =
     μ-loop
     room-requires
     loop-holds
-    shared-slice-read-glyph
-    glyph-requires
+    shared-slice-read-hex-digit
+    hex-digit-requires
     array-write-text
-    shared-slice-read-glyph-2
-    glyph-requires-2
+    shared-slice-read-hex-digit-2
+    hex-digit-requires-2
     add-text
     array-write-text-2
     add-at

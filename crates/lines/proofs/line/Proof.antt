@@ -13,7 +13,9 @@ same-length : tie.Need-same-length
 same-length c = search needs
 
 returns : tie.Need-returns
-returns c = rw (line-short (c .before .before .before .before .before .before .before .args .number) (c .before .before .before .before .before .before .before .args .block .now) (omega arith)) (c .before .before .short-line .ensures)
+returns c =
+    let a = c .before .before .before .before .before .before .before .args in
+    rw (line-short (a .number) (a .block .now) (omega arith)) (c .before .before .short-line .ensures)
 
 slice-aggregate-recover : tie.Need-slice-aggregate-recover
 slice-aggregate-recover c = search needs
@@ -44,8 +46,9 @@ returns-2 c =
     let a = c .before .before .before .before .before .before .before .before .before .before .before .before .before .args in
     let r = c .before .before .before .before .before .before .before .before .recover in
     let w = c .before .before .before .before .before .before .number in
+    let ok = c .before .before .before .before .before .if2 .taken in
     rw
-    (line-ok (a .number) (a .block .now) (omega arith) (r .result) (r .last .1 .1 .1 .0) (r .ensures) (w .result) (w .ensures) (c .before .before .before .before .before .if2 .taken))
+    (line-ok (a .number) (a .block .now) (omega arith) (r .result) (r .last .1 .1 .1 .0) (r .ensures) (w .result) (w .ensures) ok)
     (c .before .before .ok-line .ensures)
 
 same-length-3 : tie.Need-same-length-3
@@ -57,8 +60,10 @@ returns-3 c =
     let r = c .before .before .before .before .before .before .before .before .recover in
     let w = c .before .before .before .before .before .before .number in
     let s = c .before .before .before .before .second in
+    let no = c .before .before .before .before .before .if2 .left in
     rw
-    (line-no (a .number) (a .block .now) (omega arith) (r .result) (r .last .1 .1 .1 .0) (r .ensures) (w .result) (s .result) (w .ensures) (s .ensures) (c .before .before .before .before .before .if2 .left))
+    (line-no (a .number) (a .block .now) (omega arith) (r .result) (r .last .1 .1 .1 .0) (r .ensures)
+    (w .result) (s .result) (w .ensures) (s .ensures) no)
     (c .before .before .no-line .ensures)
 
 pub line-spec : {M : Type 1} → statement M

@@ -4,7 +4,7 @@ use mathlib.Core.List.{append-assoc}
 use native.Mathlib.Omega.{arith}
 use borrow.Author.Needs.{needs}
 use lib.ListN.{length-map}
-use Rattle.lines.specs.Text.{glyph}
+use Rattle.lines.specs.Text.{hexDigit}
 use Rattle.lines.specs.Line.{okLine}
 use Rattle.lines.proofs.Texts.{next}
 use Rattle.lines.proofs.ok_line.Statement.{statement}
@@ -23,7 +23,9 @@ slice-aggregate-bytes : tie.Need-slice-aggregate-bytes
 slice-aggregate-bytes c = search needs
 
 bytes-requires : tie.Need-bytes-requires
-bytes-requires c κs = omega (arith, length-map (c .before .before .before .before .before .before .before .before .before .before .before .before .before .args .message .now) glyph)
+bytes-requires c κs =
+    let message = c .before .before .before .before .before .before .before .before .before .before .before .before .before .args .message .now in
+    omega (arith, length-map message hexDigit)
 
 same-length : tie.Need-same-length
 same-length c = search needs
@@ -31,11 +33,12 @@ same-length c = search needs
 returns : tie.Need-returns
 unfolding okLine
 returns c =
-    let message = c .before .before .before .before .before .before .before .before .before .before .before .before .before .before .before .before .args .message .now in
-    let number = c .before .before .before .before .before .before .before .before .before .before .before .decimal-then .ensures in
+    let first = c .before .before .before .before .before .before .before .before .before .before .before in
+    let message = first .before .before .before .before .before .args .message .now in
+    let number = first .decimal-then .ensures in
     let digits = c .before .before .before .before .before .before .before .digits .ensures in
     let end = c .before .before .bytes .ensures in
-    (simp append-assoc at (next (number .0) (next digits end)), omega (arith, length-map message glyph))
+    (simp append-assoc at (next (number .0) (next digits end)), omega (arith, length-map message hexDigit))
 
 pub ok-line-spec : {M : Type 1} → statement M
 ok-line-spec =

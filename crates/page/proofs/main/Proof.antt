@@ -14,8 +14,8 @@ abbrev μ-loop : tie.MeasureT-loop
 loop-holds : tie.Need-loop-holds Inv-loop μ-loop
 loop-holds c = tt
 
-print-sheets-requires : tie.Need-print-sheets-requires Inv-loop μ-loop
-print-sheets-requires c κs = tt
+print-pages-requires : tie.Need-print-pages-requires Inv-loop μ-loop
+print-pages-requires c κs = tt
 
 add-turn : tie.Need-add-turn Inv-loop μ-loop
 add-turn c = omega arith
@@ -39,7 +39,7 @@ main-spec =
     Inv-loop
     μ-loop
     loop-holds
-    print-sheets-requires
+    print-pages-requires
     add-turn
     loop-less
     loop-again

@@ -13,25 +13,25 @@ order-requires c κs = search needs
 enum-told : tie.Need-enum-told
 enum-told c = search needs
 
-fresh-of-requires : tie.Need-fresh-of-requires
-fresh-of-requires c κs = search needs
+empty-session-requires : tie.Need-empty-session-requires
+empty-session-requires c κs = search needs
 
-fresh-of-requires-2 : tie.Need-fresh-of-requires-2
-fresh-of-requires-2 c κs = search needs
+empty-session-requires-2 : tie.Need-empty-session-requires-2
+empty-session-requires-2 c κs = search needs
 
 returns : tie.Need-returns
 returns c =
     let told = c .before in
     let x = told .before .before .before .args in
-    rw (c .fresh-of .ensures) (sym (opened-done (x .q) (x .m) _ (told .before .before .order .ensures) (told .enum-told .given .1)))
+    rw (c .empty-session .ensures) (sym (opened-done (x .q) (x .m) _ (told .before .before .order .ensures) (told .enum-told .given .1)))
 
 returns-2 : tie.Need-returns-2
 returns-2 c =
     let o = c .before .before .order in
     let x = c .before .before .before .args in
-    rw (c .fresh-of2 .ensures) (sym (opened-refused (x .q) (x .m) _ (o .ensures) (not-done (o .result) (c .before .match .keys2))))
+    rw (c .empty-session2 .ensures) (sym (opened-refused (x .q) (x .m) _ (o .ensures) (not-done (o .result) (c .before .match .keys2))))
 
 pub open-spec : {M : Type 1} → statement M
 open-spec =
     tie.close
-    (tie.spec order-requires enum-told fresh-of-requires fresh-of-requires-2 returns returns-2)
+    (tie.spec order-requires enum-told empty-session-requires empty-session-requires-2 returns returns-2)

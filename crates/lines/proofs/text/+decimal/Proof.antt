@@ -3,7 +3,7 @@ use mathlib.Core.Path.{_∙_}
 use native.Mathlib.Omega.{arith}
 use lib.ListN.{length-set}
 use borrow.Author.Needs.{needs}
-use Rattle.lines.proofs.Decimals.{length-small, length-large, small-typed, large-typed}
+use Rattle.lines.proofs.Decimals.{length-small, length-large, small-written, large-written}
 use Prim.Native.Nat.{ℕ, _<_}
 use borrow.Fn.Kinds.{In}
 use borrow.Fn.PlainCycle.{Measures, is, falls, and}
@@ -49,7 +49,7 @@ decimal-same-length t c = length-set (c .before .before .args .out .now) (c .bef
 
 decimal-returns :
     (t : ℕ) → decimal-lts.Need-returns (decimal-below t, decimal.Post) (decimal-at t) decimal.Post
-decimal-returns t c = small-typed (c .before .before .args .out .now) (c .before .before .args .at) (c .before .before .args .n) (c .if1 .taken)
+decimal-returns t c = small-written (c .before .before .args .out .now) (c .before .before .args .at) (c .before .before .args .n) (c .if1 .taken)
 
 decimal-decimal-requires : (t : ℕ) → decimal-lts.Need-decimal-requires (
   decimal-below t,
@@ -73,23 +73,31 @@ decimal-slice-write-out-2 : (t : ℕ) → decimal-lts.Need-slice-write-out-2 (
   decimal.Post,
 ) (decimal-at t) decimal.Post
 decimal-slice-write-out-2 t c =
-    omega (arith, length-large (c .before .before .before .before .before .before .args .n) (c .before .before .before .before .if1 .left), c .before .before .decimal .ensures .ends, c .before .before .decimal .kept .1 .1 .0)
+    let first = c .before .before .decimal in
+    let test = c .before .before .before .before in
+    omega (arith, length-large (test .before .before .args .n) (test .if1 .left), first .ensures .ends, first .kept .1 .1 .0)
 
 decimal-add-result-2 :
     (t : ℕ) →
     decimal-lts.Need-add-result-2 (decimal-below t, decimal.Post) (decimal-at t) decimal.Post
 decimal-add-result-2 t c =
-    omega (arith, length-large (c .before .before .before .before .before .before .args .n) (c .before .before .before .before .if1 .left), c .before .before .decimal .ensures .ends, c .before .before .decimal .kept .1 .1 .0)
+    let first = c .before .before .decimal in
+    let test = c .before .before .before .before in
+    omega (arith, length-large (test .before .before .args .n) (test .if1 .left), first .ensures .ends, first .kept .1 .1 .0)
 
 decimal-same-length-2 :
     (t : ℕ) →
     decimal-lts.Need-same-length-2 (decimal-below t, decimal.Post) (decimal-at t) decimal.Post
-decimal-same-length-2 t c = length-set (c .before .before .decimal .last .1 .1 .0) (c .before .before .decimal .result) _ ∙ c .before .before .decimal .kept .1 .1 .0
+decimal-same-length-2 t c =
+    let first = c .before .before .decimal in
+    length-set (first .last .1 .1 .0) (first .result) _ ∙ first .kept .1 .1 .0
 
 decimal-returns-2 :
     (t : ℕ) →
     decimal-lts.Need-returns-2 (decimal-below t, decimal.Post) (decimal-at t) decimal.Post
-decimal-returns-2 t c = large-typed _ _ _ _ (c .before .before .before .before .before .before .args .n) (c .before .before .before .before .if1 .left) (c .before .before .decimal .ensures)
+decimal-returns-2 t c =
+    let test = c .before .before .before .before in
+    large-written _ _ _ _ (test .before .before .args .n) (test .if1 .left) (c .before .before .decimal .ensures)
 
 pub +decimal-spec : {M : Type 1} → statement M
 +decimal-spec =

@@ -6,13 +6,14 @@ use Prim.Native.Nat.{_+_, _-_, _≤_}
 use native.Mathlib.Omega.{arith}
 use lib.ListN.{length, take, length-set, length-map}
 use lib.Seq.{sets, take-all}
-use Rattle.lines.specs.Text.{glyph}
+use Rattle.lines.specs.Text.{hexDigit}
 use Rattle.lines.proofs.Texts.{map-turn}
 use Rattle.lines.proofs.text.digits.Statement.{statement}
 use Rattle.lines.proofs.text.digits.Tie as tie
 
 abbrev Inv-loop : tie.InvT-loop
-Inv-loop values at out₀ j₀ end₀ out j end = (j ≤ length values) × (end ≡ at + j) × (length out ≡ length out₀) × (out ≡ sets out₀ at (map glyph (take j values)))
+Inv-loop values at out₀ j₀ end₀ out j end =
+    (j ≤ length values) × (end ≡ at + j) × (length out ≡ length out₀) × (out ≡ sets out₀ at (map hexDigit (take j values)))
 
 abbrev μ-loop : tie.MeasureT-loop
 μ-loop values at out₀ j₀ end₀ out j end = length values - j
@@ -20,11 +21,11 @@ abbrev μ-loop : tie.MeasureT-loop
 loop-holds : tie.Need-loop-holds Inv-loop μ-loop
 loop-holds c = (omega arith, omega arith, refl, refl)
 
-shared-slice-read-glyph : tie.Need-shared-slice-read-glyph Inv-loop μ-loop
-shared-slice-read-glyph c = omega arith
+shared-slice-read-hex-digit : tie.Need-shared-slice-read-hex-digit Inv-loop μ-loop
+shared-slice-read-hex-digit c = omega arith
 
-glyph-requires : tie.Need-glyph-requires Inv-loop μ-loop
-glyph-requires c κs = tt
+hex-digit-requires : tie.Need-hex-digit-requires Inv-loop μ-loop
+hex-digit-requires c κs = tt
 
 slice-write-out : tie.Need-slice-write-out Inv-loop μ-loop
 slice-write-out c = omega arith
@@ -45,7 +46,8 @@ loop-again c =
       omega arith,
       omega arith,
       simp length-set (l .inv .2),
-      map-turn glyph (a .out .now) (a .values .now) (a .at) (l .out) (l .j) (l .end) _ (l .inv .3) (l .inv .1) (c .before .before .loop-test .taken) (c .glyph .ensures),
+      map-turn hexDigit (a .out .now) (a .values .now) (a .at) (l .out) (l .j) (l .end) _ (l .inv .3) (l .inv .1)
+          (c .before .before .loop-test .taken) (c .hex-digit .ensures),
     )
 
 same-length : tie.Need-same-length Inv-loop μ-loop
@@ -56,7 +58,7 @@ returns c =
     let l = c .before .loop in
     let t = c .before .before .before .before .args .values .now in
     record {
-      ends = omega (arith, length-map t glyph);
+      ends = omega (arith, length-map t hexDigit);
       holds = rw (sym (take-all (l .j) t (c .loop-test .left))) (l .inv .3);
     }
 
@@ -67,8 +69,8 @@ digits-spec =
     Inv-loop
     μ-loop
     loop-holds
-    shared-slice-read-glyph
-    glyph-requires
+    shared-slice-read-hex-digit
+    hex-digit-requires
     slice-write-out
     add-end
     add-j

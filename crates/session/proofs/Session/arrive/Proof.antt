@@ -1,4 +1,4 @@
--- `session::Session::arrive` meets its contract: past the checks the place is one of the curve, and keeps what `keep` says.
+-- `session::Session::arrive` meets its contract: past the checks the place is one of the curve, and `merge` says what is stored there.
 -- Assumes nothing.
 use mathlib.Core.Path.{sym, _∙_}
 use Prim.Native.Nat.{_<_}
@@ -6,7 +6,7 @@ use native.Mathlib.Omega.{arith}
 use borrow.Author.Needs.{needs}
 use Rattle.field.proofs.Curves.{sizes}
 use Rattle.field.proofs.Outcomes.{not-done}
-use Rattle.session.proofs.Arrivals.{checked-place, arrived-refused, arrived-kept}
+use Rattle.session.proofs.Arrivals.{checked-place, arrived-refused, arrived-merged}
 use Rattle.session.proofs.Session.arrive.Statement.{statement}
 use Rattle.session.proofs.Session.arrive.Tie as tie
 
@@ -23,14 +23,14 @@ check-requires c κs = search needs
 enum-told : tie.Need-enum-told
 enum-told c = search needs
 
-element-copy-out-keep : tie.Need-element-copy-out-keep
-element-copy-out-keep c = inside c
+element-copy-out-merge : tie.Need-element-copy-out-merge
+element-copy-out-merge c = inside c
 
-element-copy-out-keep-2 : tie.Need-element-copy-out-keep-2
-element-copy-out-keep-2 c = inside (c .before)
+element-copy-out-merge-2 : tie.Need-element-copy-out-merge-2
+element-copy-out-merge-2 c = inside (c .before)
 
-keep-requires : tie.Need-keep-requires
-keep-requires c κs = search needs
+merge-requires : tie.Need-merge-requires
+merge-requires c κs = search needs
 
 element-write-self : tie.Need-element-write-self
 element-write-self c = inside (c .before .before .before)
@@ -42,12 +42,14 @@ returns : tie.Need-returns
 returns c =
     let told = c .before .before .before in
     let x = told .before .before .before .args in
-    sym (arrived-kept (x .t1) (x .place) (x .symbol) (x .round) _ (told .before .before .check .ensures) (told .enum-told .given .1) _ (c .keep .ensures))
+    sym (arrived-merged (x .t1) (x .place) (x .symbol) (x .round) _ (told .before .before .check .ensures) (told .enum-told .given .1) _
+    (c .merge .ensures))
 
 returns-2 : tie.Need-returns-2
 returns-2 c =
     let x = c .before .before .args in
-    sym (arrived-refused (x .t1) (x .place) (x .symbol) (x .round) _ (sym (c .before .check .ensures)) (not-done (c .before .check .result) (c .match .keys2)))
+    sym (arrived-refused (x .t1) (x .place) (x .symbol) (x .round) _ (sym (c .before .check .ensures))
+    (not-done (c .before .check .result) (c .match .keys2)))
 
 pub arrive-spec : {M : Type 1} → statement M
 arrive-spec =
@@ -55,9 +57,9 @@ arrive-spec =
     (tie.spec
     check-requires
     enum-told
-    element-copy-out-keep
-    element-copy-out-keep-2
-    keep-requires
+    element-copy-out-merge
+    element-copy-out-merge-2
+    merge-requires
     element-write-self
     element-write-self-2
     returns

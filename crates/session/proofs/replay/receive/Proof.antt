@@ -7,7 +7,7 @@ use borrow.Author.Needs.{needs}
 use lib.ListN.{length, drop}
 use Rattle.session.specs.Claim.{sessionFrom}
 use Rattle.session.specs.Replayed.{decoded}
-use Rattle.session.proofs.Replays.{receive-turn, receive-end}
+use Rattle.session.proofs.Replays.{receive-next, receive-end}
 use Rattle.session.proofs.replay.receive.Statement.{statement}
 use Rattle.session.proofs.replay.receive.Tie as tie
 
@@ -51,7 +51,7 @@ loop-less c = omega arith
 loop-again : tie.Need-loop-again Inv-loop μ-loop
 loop-again c =
     let l = c .before .before .before .before .before .before .loop in
-    (omega arith, l .inv .1 ∙ receive-turn (l .session) _ (l .at) (omega arith) _ (c .before .arrive .ensures))
+    (omega arith, l .inv .1 ∙ receive-next (l .session) _ (l .at) (omega arith) _ (c .before .arrive .ensures))
 
 returns : tie.Need-returns Inv-loop μ-loop
 returns c =

@@ -30,7 +30,7 @@
  * Threads. There is no state outside a call: no globals, no heap, no setup. Any
  * number of threads may call at once, each with an output buffer of its own;
  * they may share an input. As built now, a call takes less than 8 KiB of stack
- * (measured and not proved: most is 5401 bytes, to recover a whole word); from
+ * (measured and not proved: most is 7352 bytes, to recover a whole word); from
  * the platform it needs memcpy and memset.
  *
  * Linking. `rt staticlib hermitian` writes target/staticlib/libhermitian.a, for

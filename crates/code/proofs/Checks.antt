@@ -37,10 +37,6 @@ module _ (q m : ℕ) (rest : Outcome) where
   unfolding orderChecks
   order-curve e = rw e
 
-  pub order-high : IsCurve q → q * q * q ≤ m → orderChecks q m rest ≡ BadOrder
-  unfolding orderChecks
-  order-high c l = rw (curve-true q c, le-leb (q * q * q) m l)
-
   pub order-passed : IsCurve q → m < q * q * q → orderChecks q m rest ≡ rest
   unfolding orderChecks
   order-passed c l = rw (curve-true q c, lt-leb (q * q * q) m l)

@@ -13,11 +13,11 @@ use lib.ListN.{length, getD, List·getD-append}
 use lib.Seq.{ext-getD}
 use Rattle.field.proofs.Fields.{fieldOf}
 use Rattle.field.proofs.FieldLaws.{zero-lt}
-use Rattle.poly.specs.Linear.{entry, dot, Holds}
-use Rattle.poly.specs.Systems.{flat, Satisfies, rank, WellFormed, Joined, Brought, Solves}
+use Rattle.poly.specs.inner.Linear.{entry, dot, Holds}
+use Rattle.poly.specs.inner.Systems.{flat, Satisfies, rank, WellFormed, Joined, Brought, Solves}
 use Rattle.poly.specs.declared.system.Effect.the-variants.{Pivot, Redundant, Contradiction}
-use Rattle.poly.specs.Ranges.{Below, writes}
-use Rattle.poly.specs.Rows.{stored}
+use Rattle.poly.specs.inner.Ranges.{Below, writes}
+use Rattle.poly.specs.inner.Rows.{stored}
 use Rattle.poly.proofs.Writes.{length-writes, writes-in}
 use Rattle.poly.proofs.Solutions.{solves-only}
 use Rattle.poly.proofs.Messages.{vector-below}
@@ -26,8 +26,8 @@ use Rattle.poly.proofs.WellFormed.{blank-rank, blank-satisfied}
 use Rattle.code.specs.Terms.{size}
 use Rattle.code.specs.Word.{wordOf}
 use Rattle.code.specs.Fitting.{fits}
-use Rattle.code.specs.Rows.{rowOf, equationOf}
-use Rattle.code.specs.Recovering.{FitsBelow, FitsAt, Collected, Taken, Advanced, Gathered, Ended, Finished}
+use Rattle.code.specs.inner.Rows.{rowOf, equationOf}
+use Rattle.code.specs.inner.Recovering.{FitsBelow, FitsAt, Collected, Taken, Advanced, Gathered, Ended, Finished}
 
 module _ (q : ℕ) (columns : List ℕ) (m : ℕ) where
   -- ---- one symbol

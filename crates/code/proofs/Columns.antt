@@ -15,7 +15,6 @@ use Rattle.field.specs.Power.{power}
 use Rattle.field.specs.Product.{times}
 use Rattle.field.proofs.Table.{agrees, entry}
 use Rattle.field.proofs.Curves.{each-curve, sizes}
-use Rattle.poly.specs.Polynomials.{value}
 use Rattle.poly.proofs.Lists.{getD-map}
 use Rattle.code.specs.Passing.{passing}
 use Rattle.code.specs.Points.{onCurve, ysOf, pointsOn}
@@ -87,7 +86,9 @@ module _ (q m : ℕ) (curve : IsCurve q) (message columns : List ℕ) (small : (
       ∙ omega (arith, length-upto t (omega arith), length-map (ysOf q x) (valueAt q m message x), length-ys q curve x (small t l), mul-suc q t)
 
   pub word-length : length (wordOf q columns m message) ≡ q * length columns
-  word-length = ap (λ (c : List ℕ). length (wordOf q c m message)) (sym (take-all (length columns) columns (omega arith))) ∙ length-upto (length columns) (omega arith)
+  word-length =
+      ap (λ (c : List ℕ). length (wordOf q c m message)) (sym (take-all (length columns) columns (omega arith)))
+      ∙ length-upto (length columns) (omega arith)
 
   upto-at : (c : ℕ) → c ≤ length columns → (t s : ℕ) → t < c → s < q
       → getD (upto c) (q * t + s) 0 ≡ valueAt q m message (getD columns t 0) (getD (ysOf q (getD columns t 0)) s 0)
@@ -109,7 +110,8 @@ module _ (q m : ℕ) (curve : IsCurve q) (message columns : List ℕ) (small : (
           ap (λ (i : ℕ). getD (upto c ++ here (getD columns c 0)) i 0)
           (omega (arith, length-upto c (omega arith), ap (λ (i : ℕ). q * i) e))
           ∙ getD-append-add (upto c) (here (getD columns c 0)) s 0
-          ∙ getD-map (valueAt q m message (getD columns c 0)) (ysOf q (getD columns c 0)) 0 0 s (omega (arith, length-ys q curve (getD columns c 0) (small c l)))
+          ∙ getD-map (valueAt q m message (getD columns c 0)) (ysOf q (getD columns c 0)) 0 0 s
+          (omega (arith, length-ys q curve (getD columns c 0) (small c l)))
           ∙ ap (λ (i : ℕ). valueAt q m message (getD columns i 0) (getD (ysOf q (getD columns i 0)) s 0)) e
 
   -- the symbol at place q * t + s is the value at the point s of column t

@@ -17,10 +17,10 @@ use Rattle.field.proofs.Fields.{fieldOf}
 use Rattle.field.proofs.FieldLaws.{zero-lt}
 use Rattle.field.proofs.Powers.{power-zero, power-next, power-lt}
 use Rattle.field.proofs.Curves.{sizes}
-use Rattle.poly.specs.Ranges.{Below, writes, part, Blocks}
-use Rattle.poly.specs.Linear.{entry}
-use Rattle.poly.specs.Rows.{scaled, stored}
-use Rattle.poly.specs.Systems.{Equation, Brought}
+use Rattle.poly.specs.inner.Ranges.{Below, writes, part, Blocks}
+use Rattle.poly.specs.inner.Linear.{entry}
+use Rattle.poly.specs.inner.Rows.{scaled, stored}
+use Rattle.poly.specs.inner.Systems.{Equation, Brought}
 use Rattle.poly.specs.declared.system.Effect.{Effect}
 use Rattle.poly.proofs.Bringing.{brought-same}
 use Rattle.poly.proofs.Blocks.{blocks-more, blocks-at}
@@ -31,11 +31,11 @@ use Rattle.poly.proofs.Writes.{length-writes, writes-in, below-writes}
 use Rattle.poly.proofs.Entries.{below-zeros}
 use Rattle.code.specs.Terms.{isTerm, weights, size}
 use Rattle.code.specs.Word.{monomial}
-use Rattle.code.specs.Grid.{entryOf, entriesOf, listed}
-use Rattle.code.specs.Recovering.{termAt, EquationAt}
+use Rattle.code.specs.inner.Grid.{entryOf, entriesOf, listed}
+use Rattle.code.specs.inner.Recovering.{termAt, EquationAt}
 use Rattle.code.specs.Points.{ysOf}
-use Rattle.code.specs.Columns.{Columns, Ys}
-use Rattle.code.specs.Rows.{rowOf, equationOf}
+use Rattle.code.specs.inner.Columns.{Columns, Ys}
+use Rattle.code.specs.inner.Rows.{rowOf, equationOf}
 use Rattle.code.proofs.Passing.{at-place}
 use Rattle.code.proofs.Weights.{entry-x, entry-y}
 use Rattle.code.proofs.GridEntries.{Split, length-entries, entry-at-most}

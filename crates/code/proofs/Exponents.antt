@@ -6,7 +6,7 @@ use native.Mathlib.Nat.{pow-zero, pow-suc, le-refl, mul-le-mul-left, one-le-pow,
 use native.Mathlib.Decide.{ℕ-discrete}
 use native.Mathlib.Omega.{arith}
 use borrow.Author.Tests.{le-leb, lt-leb}
-use Rattle.code.specs.Exponent.{climb, exponent}
+use Rattle.code.specs.Exponent.{exponentFrom, exponent}
 
 -- a higher power is larger, and larger than its exponent
 pub pow-lt : (Q r s : ℕ) → 1 < Q → r < s → Q ^ r < Q ^ s
@@ -17,15 +17,15 @@ pub lt-pow : (Q r : ℕ) → 1 < Q → r < Q ^ r
 lt-pow Q zero h = rw pow-zero (omega arith)
 lt-pow Q (suc r) h = omega (arith, pow-suc Q r, lt-pow Q r h, mul-le-mul-left (Q ^ r) h)
 
-climb-power : (steps Q r s : ℕ) → 1 < Q → s ≤ r → r ≤ s + steps → climb steps Q (Q ^ r) s ≡ r
-unfolding climb
-climb-power zero Q r s h l b = omega arith
-climb-power (suc steps) Q r s h l b =
+exponentFrom-power : (steps Q r s : ℕ) → 1 < Q → s ≤ r → r ≤ s + steps → exponentFrom steps Q (Q ^ r) s ≡ r
+unfolding exponentFrom
+exponentFrom-power zero Q r s h l b = omega arith
+exponentFrom-power (suc steps) Q r s h l b =
     elim (ℕ-discrete s r) [
       | yes e ↦ rw (e, le-leb (Q ^ r) (Q ^ r) (le-refl (Q ^ r)))
-      | no d ↦ rw (lt-leb (Q ^ r) (Q ^ s) (pow-lt Q s r h (omega arith))) (climb-power steps Q r (suc s) h (omega arith) (omega arith))
+      | no d ↦ rw (lt-leb (Q ^ r) (Q ^ s) (pow-lt Q s r h (omega arith))) (exponentFrom-power steps Q r (suc s) h (omega arith) (omega arith))
     ]
 
 pub exponent-power : (Q r : ℕ) → 1 < Q → exponent Q (Q ^ r) ≡ r
 unfolding exponent
-exponent-power Q r h = climb-power (Q ^ r) Q r 0 h (omega arith) (omega (arith, lt-pow Q r h))
+exponent-power Q r h = exponentFrom-power (Q ^ r) Q r 0 h (omega arith) (omega (arith, lt-pow Q r h))

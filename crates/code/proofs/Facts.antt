@@ -14,13 +14,13 @@ use Rattle.field.proofs.Fields.{fieldOf}
 use Rattle.field.proofs.Curves.{sizes}
 use Rattle.poly.specs.Lists.{Nodup, count}
 use Rattle.poly.specs.Messages.{Vector, all}
-use Rattle.poly.specs.Linear.{entry, dot}
+use Rattle.poly.specs.inner.Linear.{entry, dot}
 use Rattle.poly.proofs.Elimination.{PowerOrNone, Meets, eliminate, power-or-none}
 use Rattle.code.specs.Points.{columnsOf}
 use Rattle.code.specs.Terms.{size}
 use Rattle.code.specs.Word.{wordOf}
 use Rattle.code.specs.Fitting.{fits}
-use Rattle.code.specs.Rows.{rowOf}
+use Rattle.code.specs.inner.Rows.{rowOf}
 use Rattle.code.proofs.Passing.{of-mem-passing}
 use Rattle.code.proofs.FullColumns.{full-columns, full-places, full-points}
 use Rattle.code.proofs.Zeros.{agree}

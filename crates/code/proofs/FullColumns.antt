@@ -12,14 +12,14 @@ use Rattle.field.specs.Curve.{IsCurve}
 use Rattle.field.proofs.Fields.{fieldOf}
 use Rattle.field.proofs.FieldLaws.{zero-lt}
 use Rattle.field.proofs.Curves.{each-curve, sizes}
-use Rattle.poly.specs.Ranges.{Below}
+use Rattle.poly.specs.inner.Ranges.{Below}
 use Rattle.code.specs.Passing.{passing, upTo}
 use Rattle.code.specs.Points.{pointsOn, columnsOf}
 use Rattle.code.specs.Terms.{isTerm, size}
-use Rattle.code.specs.Columns.{Columns}
-use Rattle.code.specs.Encodable.{Encodable}
-use Rattle.code.specs.Recovering.{BrokenOver}
-use Rattle.code.specs.Readable.{Readable}
+use Rattle.code.specs.inner.Columns.{Columns}
+use Rattle.code.specs.inner.Encodable.{Encodable}
+use Rattle.code.specs.inner.Recovering.{BrokenOver}
+use Rattle.code.specs.inner.Readable.{Readable}
 use Rattle.code.proofs.Passing.{place-true, place-le, at-place, nodup-passing}
 use Rattle.code.proofs.Columns.{word-length}
 use Rattle.code.proofs.Word.{length-word}

@@ -6,19 +6,19 @@ use mathlib.Core.List.{List}
 use mathlib.Core.Path.{_≡_, refl, sym, ap, ap₂, _∙_}
 use Prim.Native.Nat.{ℕ, zero, suc, _+_, _-_, _*_, _/_, _%_, _≤_, _<_}
 use native.Mathlib.Decide.{decLt, ℕ-discrete}
-use native.Mathlib.Nat.{mul-le-mul-left, div-add-mod, add-mul}
+use native.Mathlib.Nat.{mul-le-mul-left, div-add-mod}
 use native.Mathlib.Numerals.{add-one}
 use native.Mathlib.Omega.{arith}
 use borrow.Author.Tests.{leb-true}
 use lib.ListN.{length, getD, take, set, replicate, length-set, length-replicate, length-map}
 use lib.Seq.{length-take-le, getD-take, getD-set-same, getD-set-other, ext-getD}
-use Rattle.poly.specs.Ranges.{writes}
+use Rattle.poly.specs.inner.Ranges.{writes}
 use Rattle.poly.proofs.Bools.{true-or-false}
 use Rattle.poly.proofs.Lists.{getD-map}
 use Rattle.poly.proofs.Entries.{getD-zeros}
 use Rattle.poly.proofs.Writes.{length-writes, writes-in}
 use Rattle.code.specs.Terms.{isTerm, weights, size}
-use Rattle.code.specs.Grid.{weightOf, entryOf, rank, scatterBelow, scatter, gather, entriesOf, listed, WeightOfTerm}
+use Rattle.code.specs.inner.Grid.{weightOf, entryOf, rank, scatterBelow, scatter, gather, entriesOf, listed, WeightOfTerm}
 use Rattle.code.proofs.Passing.{passing-at, at-place, place-lt, place-true, place-false}
 use Rattle.code.proofs.Weights.{rank-zero, weight-of-entry, entry-of-weight, entry-term, weight-number}
 
@@ -157,14 +157,14 @@ Split q w i j = (i ≡ w / q) × (j ≡ w % q)
 pub split-sum : (q w i j : ℕ) → Split q w i j → w ≡ q * i + j
 split-sum q w i j d = omega (arith, div-add-mod w q, ap (λ (x : ℕ). q * x) (d .0), d .1)
 
--- y^j alone weighs no more than the term, and the entry is what the weight of x^i and j add up to
-pub in-y-le : (q w i j : ℕ) → isTerm q w ≡ true → Split q w i j → (q + 1) * j ≤ w
-in-y-le q w i j t d =
+-- the entry of a term's weight
+pub entry-le : (q w i j : ℕ) → isTerm q w ≡ true → Split q w i j → q * j ≤ w
+entry-le q w i j t d =
     let l : j ≤ i = omega (arith, d .0, d .1, leb-true (w % q) (w / q) t) in
-    omega (arith, add-mul q 1 j, split-sum q w i j d, mul-le-mul-left q l)
+    omega (arith, split-sum q w i j d, mul-le-mul-left q l)
 
-pub entry-is : (q w i j : ℕ) → isTerm q w ≡ true → Split q w i j → w - (q + 1) * j + j ≡ entryOf q w
-entry-is q w i j t d = omega (arith, add-mul q 1 j, in-y-le q w i j t d, ap (λ (x : ℕ). q * x) (d .1))
+pub entry-is : (q w i j : ℕ) → Split q w i j → w - q * j ≡ entryOf q w
+entry-is q w i j d = ap (λ (x : ℕ). w - q * x) (d .1)
 
 pub length-entries : (q m : ℕ) → length (entriesOf q m) ≡ size q m
 length-entries q m = length-map (weights q m) (entryOf q)

@@ -11,7 +11,7 @@ use native.Mathlib.Omega.{arith}
 use lib.ListN.{length, getD, drop}
 use Rattle.field.specs.Values.{badValue, firstBad}
 use Rattle.field.proofs.Values.{good-symbol, bad-turn, bad-none}
-use Rattle.code.specs.Highest.{Highest}
+use Rattle.code.specs.inner.Highest.{Highest}
 
 module _ (values : List ℕ) where
   pub highest-none : Highest values 0 0

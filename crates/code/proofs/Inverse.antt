@@ -22,7 +22,7 @@ use Rattle.code.specs.Checks.{sliceChecks}
 use Rattle.code.specs.Answers.{Answer, answered}
 use Rattle.code.specs.Encoded.{encodeChecks, encoded}
 use Rattle.code.specs.Unencoded.{unencodeChecks, theMessage, unencoded}
-use Rattle.code.specs.Readable.{readOver}
+use Rattle.code.specs.inner.Readable.{readOver}
 use Rattle.code.proofs.Checks.{Accepted, good-symbol, symbol-of-good, order-passed, order-rest, slices-accepted, slices-done}
 use Rattle.code.proofs.Answers.{not-refused, past-checks}
 use Rattle.code.proofs.Columns.{word-length}

@@ -24,7 +24,9 @@ pub mod Exponents
 pub mod Readings
 pub mod Recoveries
 pub mod ReadingSystems
-pub mod InverseStages
+pub mod ColumnInterpolation
+pub mod SymbolPowers
 pub mod WordGrids
 pub mod Inverse
 pub mod PaperValues
+pub mod WorkFronts

@@ -12,11 +12,11 @@ use native.Mathlib.Omega.{arith}
 use borrow.Author.Tests.{le-leb, lt-leb, eq-eqb, ne-eqb, eqb-true}
 use lib.Dec.{leb, eqb}
 use lib.ListN.{length, getD}
-use Rattle.code.specs.Grid.{weightOf, scatter, gather, orderAtMost}
-use Rattle.poly.specs.Ranges.{part}
+use Rattle.code.specs.inner.Grid.{weightOf, scatter, gather, orderAtMost}
+use Rattle.poly.specs.inner.Ranges.{part}
 use Rattle.poly.proofs.Bools.{true-or-false}
 use Rattle.poly.proofs.Parts.{part-at}
-use Rattle.code.specs.Highest.{Highest}
+use Rattle.code.specs.inner.Highest.{Highest}
 use Rattle.code.proofs.GridEntries.{Split, split-sum, scatter-above, scatter-gather}
 
 module _ (q m : ℕ) (grid : List ℕ) where

@@ -19,22 +19,22 @@ use Rattle.field.specs.declared.outcome.Outcome.the-variants.{Done}
 use Rattle.field.proofs.Search.{of-every}
 use Rattle.poly.specs.Lists.{filter, below}
 use Rattle.poly.specs.Messages.{all}
-use Rattle.poly.specs.Ranges.{Below}
-use Rattle.poly.specs.Polynomials.{value}
-use Rattle.poly.specs.Interpolation.{strand}
+use Rattle.poly.specs.inner.Ranges.{Below}
+use Rattle.poly.specs.inner.Polynomials.{value}
+use Rattle.poly.specs.inner.Interpolation.{interleaved}
 use Rattle.code.specs.Passing.{passing}
 use Rattle.code.specs.Points.{ysOf, pointsOn, columnsOf}
 use Rattle.code.specs.Terms.{size}
 use Rattle.code.specs.Word.{valueAt, wordOf}
-use Rattle.code.specs.Grid.{orderAtMost}
+use Rattle.code.specs.inner.Grid.{orderAtMost}
 use Rattle.code.specs.Checks.{orderChecks, firstBad, sliceChecks}
 use Rattle.code.specs.Answers.{Answer, answered, unlessRefused}
-use Rattle.code.specs.Exponent.{climb, exponent}
+use Rattle.code.specs.Exponent.{exponentFrom, exponent}
 use Rattle.code.specs.Fitting.{agrees, fits, fitting}
 use Rattle.code.specs.Encoded.{encoded}
 use Rattle.code.specs.Unencoded.{unencodeChecks, theMessage, unencoded}
-use Rattle.code.specs.Recovered.{read, reading, told, recoverChecks, recovered}
-use Rattle.code.specs.Readable.{WordOver}
+use Rattle.code.specs.Recovered.{read, reading, answerOf, recoverChecks, recovered}
+use Rattle.code.specs.inner.Readable.{WordOver}
 use Rattle.code.proofs.FullColumns.{full-columns}
 use Rattle.code.proofs.Readings.{Fitting, fitting-list, none-listed}
 use Rattle.code.proofs.WordGrids.{gridValue, GridOf, only-within}
@@ -147,12 +147,12 @@ unencoded-I =
     ap (λ (l : List (List ℕ)). numbers (unlessRefused (unencodeChecks 2 7 wordI roomI) roomI (theMessage l roomI))) none-listed-I
 
 recovered-I : numbers (recovered 2 7 wordI roomI) ≡ 9 ∷ 0 ∷ roomI
-unfolding recovered reading read told orderChecks sliceChecks firstBad passing
+unfolding recovered reading read answerOf orderChecks sliceChecks firstBad passing
 recovered-I =
-    ap (λ (l : List (List ℕ)). numbers (unlessRefused (recoverChecks 2 7 wordI roomI) roomI (told (read 4 l) roomI))) none-listed-I
+    ap (λ (l : List (List ℕ)). numbers (unlessRefused (recoverChecks 2 7 wordI roomI) roomI (answerOf (read 4 l) roomI))) none-listed-I
 
 values-computed : map (λ (r : Row). r .ours) computed ≡ map (λ (r : Row). r .paper) computed
-unfolding recovered told reading read fitting fits agrees every filter all below flatMap exponent climb wordOf valueAt pointsOn ysOf
+unfolding recovered answerOf reading read fitting fits agrees every filter all below flatMap exponent exponentFrom wordOf valueAt pointsOn ysOf
     passing power sum times inverse combine timesZ plus orderChecks firstBad sliceChecks
 values-computed = refl
 

@@ -11,15 +11,15 @@ use lib.ListN.{length, getD}
 use Rattle.field.proofs.Fields.{fieldOf}
 use Rattle.poly.specs.Lists.{count}
 use Rattle.poly.specs.Messages.{Vector, all}
-use Rattle.poly.specs.Linear.{entry}
-use Rattle.poly.specs.Systems.{flat, Satisfies, rank}
+use Rattle.poly.specs.inner.Linear.{entry}
+use Rattle.poly.specs.inner.Systems.{flat, Satisfies, rank}
 use Rattle.poly.proofs.Solutions.{solutions-by, solves-vector, solves-only}
 use Rattle.poly.proofs.WellFormed.{triangular}
 use Rattle.code.specs.Terms.{size}
 use Rattle.code.specs.Word.{wordOf}
 use Rattle.code.specs.Fitting.{fits}
 use Rattle.code.specs.Recovered.{reading, nothing, message, several}
-use Rattle.code.specs.Recovering.{BrokenOver, FitsBelow, Gathered, Ended, Finished}
+use Rattle.code.specs.inner.Recovering.{BrokenOver, FitsBelow, Gathered, Ended, Finished}
 use Rattle.code.proofs.Rows.{word-dot}
 use Rattle.code.proofs.Fitting.{Fits, of-fits, to-fits}
 use Rattle.code.proofs.Readings.{reading-nothing, reading-message, reading-several}

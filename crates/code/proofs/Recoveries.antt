@@ -13,7 +13,7 @@ use Rattle.code.specs.Points.{columnsOf}
 use Rattle.code.specs.Terms.{size}
 use Rattle.code.specs.Word.{wordOf}
 use Rattle.code.specs.Answers.{answered}
-use Rattle.code.specs.Recovered.{Reading, nothing, message, several, reading, told, recoverChecks, recovered}
+use Rattle.code.specs.Recovered.{Reading, nothing, message, several, reading, answerOf, recoverChecks, recovered}
 use Rattle.code.proofs.Answers.{refused, not-refused}
 
 -- the reading past the checks
@@ -25,31 +25,31 @@ module _ (q m : ℕ) (broken slice : List ℕ) where
   pub recovered-refused : (o : Outcome) → recoverChecks q m broken slice ≡ o → eqb (number o) 0 ≡ false
       → recovered q m broken slice ≡ answered o slice
   unfolding recovered
-  recovered-refused o = refused (recoverChecks q m broken slice) o slice (told (readingOf q m broken) slice)
+  recovered-refused o = refused (recoverChecks q m broken slice) o slice (answerOf (readingOf q m broken) slice)
 
-  pub recovered-told : recoverChecks q m broken slice ≡ Done → recovered q m broken slice ≡ told (readingOf q m broken) slice
+  pub recovered-answer : recoverChecks q m broken slice ≡ Done → recovered q m broken slice ≡ answerOf (readingOf q m broken) slice
   unfolding recovered
-  recovered-told = not-refused (recoverChecks q m broken slice) slice (told (readingOf q m broken) slice)
+  recovered-answer = not-refused (recoverChecks q m broken slice) slice (answerOf (readingOf q m broken) slice)
 
--- ---- the answer tells the reading
+-- ---- the answer determines the reading
 
-abbrev heardIn : Outcome → List ℕ → Reading
-heardIn o slice = cond (eqb (number o) 0) (message slice) (cond (eqb (number o) 9) nothing (several (second o)))
+abbrev readingFrom : Outcome → List ℕ → Reading
+readingFrom o slice = cond (eqb (number o) 0) (message slice) (cond (eqb (number o) 9) nothing (several (second o)))
 
-heard : (r : Reading) (slice : List ℕ) → r ≡ heardIn (told r slice .outcome) (told r slice .slice)
-unfolding told
-heard nothing slice = refl
-heard (message v) slice = refl
-heard (several n) slice = refl
+reading-of : (r : Reading) (slice : List ℕ) → r ≡ readingFrom (answerOf r slice .outcome) (answerOf r slice .slice)
+unfolding answerOf
+reading-of nothing slice = refl
+reading-of (message v) slice = refl
+reading-of (several n) slice = refl
 
-pub told-nothing : (r : Reading) (slice : List ℕ) → (told r slice .outcome ≡ NoMessage) ↔ (r ≡ nothing)
-unfolding told
-told-nothing r slice = (λ h. heard r slice ∙ rw h, λ h. rw h)
+pub answer-nothing : (r : Reading) (slice : List ℕ) → (answerOf r slice .outcome ≡ NoMessage) ↔ (r ≡ nothing)
+unfolding answerOf
+answer-nothing r slice = (λ h. reading-of r slice ∙ rw h, λ h. rw h)
 
-pub told-message : (r : Reading) (slice v : List ℕ) → ((told r slice .outcome ≡ Done) × (told r slice .slice ≡ v)) ↔ (r ≡ message v)
-unfolding told
-told-message r slice v = (λ h. heard r slice ∙ rw (h .0, h .1), λ h. rw h (refl, refl))
+pub answer-message : (r : Reading) (slice v : List ℕ) → ((answerOf r slice .outcome ≡ Done) × (answerOf r slice .slice ≡ v)) ↔ (r ≡ message v)
+unfolding answerOf
+answer-message r slice v = (λ h. reading-of r slice ∙ rw (h .0, h .1), λ h. rw h (refl, refl))
 
-pub told-several : (r : Reading) (slice : List ℕ) (n : ℕ) → (told r slice .outcome ≡ Several n) ↔ (r ≡ several n)
-unfolding told
-told-several r slice n = (λ h. heard r slice ∙ rw h, λ h. rw h)
+pub answer-several : (r : Reading) (slice : List ℕ) (n : ℕ) → (answerOf r slice .outcome ≡ Several n) ↔ (r ≡ several n)
+unfolding answerOf
+answer-several r slice n = (λ h. reading-of r slice ∙ rw h, λ h. rw h)

@@ -14,7 +14,7 @@ use Rattle.field.specs.Curve.{IsCurve, curveOf}
 use Rattle.field.proofs.Curves.{sizes}
 use Rattle.code.specs.Passing.{passing}
 use Rattle.code.specs.Terms.{isTerm, xPower, yPower, weights, size}
-use Rattle.code.specs.Grid.{weightOf, entryOf, rank, WeightOfTerm}
+use Rattle.code.specs.inner.Grid.{weightOf, entryOf, rank, WeightOfTerm}
 use Rattle.poly.specs.Lists.{Nodup}
 use Rattle.code.proofs.Passing.{passing-at, at-place, place-lt, place-true, place-false, place-le, place-bound, nodup-passing}
 

@@ -1,37 +1,40 @@
 -- The grid of a word: the one that takes the word's value at every point of the columns. Interpolation leaves it; a message has the word exactly
 -- where its coefficients, laid out, are that grid; so the test of the weights says whether a message has the word, and the grid which.
 -- Assumes nothing.
-use mathlib.Core.Bool.{Bool, true, false}
+use mathlib.Core.Bool.{Bool, true, false, cond}
 use mathlib.Core.List.{List, [], _∷_, List·Memᴰ·head as head, List·Memᴰ·tail as tail, List·Memᴰ·not-nil as not-nil}
 use mathlib.Core.Path.{_≡_, refl, sym, ap, _∙_}
-use Prim.Native.Nat.{ℕ, suc, _+_, _*_, _<_}
+use Prim.Native.Nat.{ℕ, suc, _+_, _*_, _≤_, _<_}
+use native.Mathlib.Nat.{mul-le-mul-right}
 use native.Mathlib.Omega.{arith}
-use lib.ListN.{length, getD}
+use lib.ListN.{length, getD, take}
+use lib.Seq.{length-take-le}
 use Rattle.field.proofs.Fields.{fieldOf}
 use Rattle.field.proofs.FieldLaws.{zero-lt}
 use Rattle.field.proofs.Curves.{sizes}
 use Rattle.field.specs.declared.outcome.Outcome.the-variants.{Done, NoMessage}
 use Rattle.poly.specs.Messages.{Vector}
 use Rattle.poly.specs.Sets.{ListOf}
-use Rattle.poly.specs.Ranges.{Below}
-use Rattle.poly.specs.Polynomials.{value}
-use Rattle.poly.specs.Interpolation.{strand}
-use Rattle.poly.proofs.Lists.{getD-map, each-mem}
+use Rattle.poly.specs.inner.Ranges.{Below}
+use Rattle.poly.specs.inner.Polynomials.{value}
+use Rattle.poly.specs.inner.Interpolation.{interleaved, InterpolatedRows}
+use Rattle.poly.proofs.Lists.{each-mem}
 use Rattle.poly.proofs.Messages.{below-vector, vector-below}
 use Rattle.poly.proofs.Values.{value-cong, value-lt}
 use Rattle.poly.proofs.Roots.{value-unique}
-use Rattle.poly.proofs.Strands.{place-lt}
-use Rattle.poly.proofs.Interpolants.{at-column, strands-unique}
+use Rattle.poly.proofs.Interleaving.{place-lt, interleaved-take}
+use Rattle.poly.proofs.Interpolants.{at-column, interleaved-unique}
 use Rattle.poly.proofs.Blocks.{blocks-ext}
+use Rattle.poly.proofs.Parts.{below-take}
 use Rattle.code.specs.Points.{ysOf}
 use Rattle.code.specs.Terms.{weights, size}
 use Rattle.code.specs.Word.{wordOf}
-use Rattle.code.specs.Grid.{entryOf, scatter, gather, orderAtMost}
+use Rattle.code.specs.inner.Grid.{entryOf, scatter, gather, orderAtMost}
 use Rattle.code.specs.Fitting.{fitting}
 use Rattle.code.specs.Answers.{answered}
 use Rattle.code.specs.Unencoded.{theMessage}
-use Rattle.code.specs.Recovered.{read, reading, told}
-use Rattle.code.specs.Readable.{WordOver, InterpolatedInY, InterpolatedInX, readOver}
+use Rattle.code.specs.Recovered.{read, reading, answerOf}
+use Rattle.code.specs.inner.Readable.{WordOver, InterpolatedInY, readOver, gridAnswer}
 use Rattle.code.proofs.GridEntries.{length-scatter, length-gather, gather-scatter, gather-number}
 use Rattle.code.proofs.GridLaw.{two-stages}
 use Rattle.code.proofs.Order.{within-scatter, within-message}
@@ -59,22 +62,30 @@ vector-gather q m b grid h =
     }
 
 module _ (q : ℕ) (columns word : List ℕ) (w : WordOver q columns word) where
-  -- interpolation in y, then in x, leaves it
-  pub grid-of : (rows grid : List ℕ) → InterpolatedInY q columns word rows → length grid ≡ length word → InterpolatedInX q columns rows grid
-      → GridOf q columns word grid
-  grid-of rows grid first long second =
+  -- interpolation in y, then in x, leaves it in the front of work
+  pub grid-of : (rows work : List ℕ) → InterpolatedInY q columns word rows → length work ≡ 16 * length columns
+      → InterpolatedRows (fieldOf q) q columns rows work
+      → GridOf q columns word (take (length word) work)
+  grid-of rows work first long second =
       record {
-        long = long ∙ w .long;
-        symbols = second .symbols;
-        is = λ t s a b. value-cong (fieldOf q) q (at-column (fieldOf q) q columns grid t) (strand (length columns) rows t)
+        long = length-take-le (length word) work fits ∙ w .long;
+        symbols = below-take (fieldOf q .size) work (length word) (second .below);
+        is = λ t s a b. value-cong (fieldOf q) q (at-column (fieldOf q) q columns (take (length word) work) t) (λ j. getD rows (16 * t + j) 0)
             (getD (ysOf q (getD columns t 0)) s 0)
-            (λ j k. second .is j t k a) ∙ first .is t s a b;
+            (λ j k. value-cong (fieldOf q) (length columns) (interleaved q (take (length word) work) j) (interleaved q work j) (getD columns t 0)
+            (λ i l. ap (λ (n : ℕ). interleaved q (take n work) j i) (w .long) ∙ interleaved-take q work j (length columns) i k l)
+            ∙ second .is j t k a) ∙ first .is t s a b;
       }
+    where
+      fits : length word ≤ length work
+      fits =
+          let l : q * length columns ≤ 16 * length columns = mul-le-mul-right (length columns) (omega (arith, sizes q (w .over .curve) .high)) in
+          omega (arith, w .long)
 
   -- there is no other
   pub grid-only : (a b : List ℕ) → GridOf q columns word a → GridOf q columns word b → a ≡ b
   grid-only a b ha hb =
-      strands-unique (fieldOf q) q columns (columns-below q columns (w .over)) (w .over .distinct) a b
+      interleaved-unique (fieldOf q) q columns (columns-below q columns (w .over)) (w .over .distinct) a b
       (below-vector (fieldOf q .size) (q * length columns) a (ha .long) (ha .symbols))
       (below-vector (fieldOf q .size) (q * length columns) b (hb .long) (hb .symbols))
       (λ j t k l. same t l j k)
@@ -85,7 +96,7 @@ module _ (q : ℕ) (columns word : List ℕ) (w : WordOver q columns word) where
           let long = length-ys q (w .over .curve) x (w .over .small t l) in
           value-unique (fieldOf q) (ysOf q x) q (at-column (fieldOf q) q columns a t) (at-column (fieldOf q) q columns b t)
           (ys-below q (w .over .curve) x (w .over .small t l)) (nodup-ys q x)
-          (λ j k. value-lt (fieldOf q) (length columns) (strand q a j) x) (λ j k. value-lt (fieldOf q) (length columns) (strand q b j) x)
+          (λ j k. value-lt (fieldOf q) (length columns) (interleaved q a j) x) (λ j k. value-lt (fieldOf q) (length columns) (interleaved q b j) x)
           (omega arith)
           (each-mem (λ (y : ℕ). value (fieldOf q) q (at-column (fieldOf q) q columns a t) y
           ≡ value (fieldOf q) q (at-column (fieldOf q) q columns b t) y) 0 (ysOf q x)
@@ -131,17 +142,17 @@ module _ (q : ℕ) (columns word : List ℕ) (w : WordOver q columns word) where
         ∙ gather-scatter q pos (q * length columns) m v (hv .vector .len) order
 
     -- so recovery says of a whole word what unencoding says
-    told-read : (slice : List ℕ) (l : List (List ℕ)) → ListOf (Fitting (q * q) (size q m) (wordOf q columns m) word) l
-        → told (read (q * q) l) slice ≡ theMessage l slice
-    unfolding read told
-    told-read slice [] h = refl
-    told-read slice (u ∷ []) h = refl
-    told-read slice (u ∷ v ∷ l) h = absurd (h .distinct .0 (head (message-only u v (h .sound u (head refl)) (h .sound v (tail (head refl))))))
+    answer-read : (slice : List ℕ) (l : List (List ℕ)) → ListOf (Fitting (q * q) (size q m) (wordOf q columns m) word) l
+        → answerOf (read (q * q) l) slice ≡ theMessage l slice
+    unfolding read answerOf
+    answer-read slice [] h = refl
+    answer-read slice (u ∷ []) h = refl
+    answer-read slice (u ∷ v ∷ l) h = absurd (h .distinct .0 (head (message-only u v (h .sound u (head refl)) (h .sound v (tail (head refl))))))
 
-    pub whole-told : (slice : List ℕ) → told (reading (q * q) (size q m) (wordOf q columns m) word) slice ≡ readOver q columns m word slice
+    pub whole-answer : (slice : List ℕ) → answerOf (reading (q * q) (size q m) (wordOf q columns m) word) slice ≡ readOver q columns m word slice
     unfolding reading
-    whole-told slice =
-        told-read slice (fitting (q * q) (size q m) (wordOf q columns m) word) (fitting-list (q * q) (size q m) (wordOf q columns m) word)
+    whole-answer slice =
+        answer-read slice (fitting (q * q) (size q m) (wordOf q columns m) word) (fitting-list (q * q) (size q m) (wordOf q columns m) word)
 
     -- a grid without heavy terms is that of a message, which has the word
     module _ (grid : List ℕ) (g : GridOf q columns word grid) where
@@ -199,3 +210,11 @@ module _ (q : ℕ) (columns word : List ℕ) (w : WordOver q columns word) (m : 
       (fitting-list (q * q) (size q m) (wordOf q columns m) word)
       (λ v h. let z : _≡_ {A = Bool} true false = sym (only-within q columns word w m order grid g v h) ∙ e in let o : _≡_ {A = ℕ} 0 1 = cc in
       omega arith)
+
+  -- what is read of the grid is what is read of the word
+  pub read-answer : readOver q columns m word slice ≡ gridAnswer q m grid slice
+  read-answer = go (orderAtMost q m (length grid) grid) refl
+    where
+      go : (b : Bool) → orderAtMost q m (length grid) grid ≡ b → readOver q columns m word slice ≡ gridAnswer q m grid slice
+      go true e = read-within e ∙ sym (ap (λ (x : Bool). cond x (answered Done (gather q m grid)) (answered NoMessage slice)) e)
+      go false e = read-beyond e ∙ sym (ap (λ (x : Bool). cond x (answered Done (gather q m grid)) (answered NoMessage slice)) e)

@@ -1,22 +1,29 @@
--- The table of the y of all columns: its rule from one computed test.
+-- The table of the y of all columns: its rule from two computed tests.
 -- Assumes nothing.
 use mathlib.Core.List.{List}
 use mathlib.Core.Path.{_≡_, refl, sym, ap, ap₂, _∙_}
 use Prim.Native.Nat.{ℕ, _+_, _-_, _*_, _/_, _%_, _≤_, _<_}
 use native.Mathlib.Nat.{mul-suc, mul-le-mul-left}
+use native.Mathlib.Decide.{decLt}
 use native.Mathlib.Omega.{arith}
-use lib.Dec.{T}
-use lib.ListN.{length, getD, take}
+use lib.Dec.{T, ltb, ltb→lt}
+use lib.ListN.{length, getD, take, List·getD-eq-default}
 use lib.Seq.{ext-getD}
 use Rattle.field.specs.Curve.{IsCurve}
+use Rattle.field.specs.Tests.{every}
+use Rattle.field.proofs.Search.{of-every}
+use Rattle.field.proofs.Fields.{fieldOf}
+use Rattle.field.proofs.FieldLaws.{zero-lt}
 use Rattle.field.proofs.Table.{agrees, entry}
 use Rattle.field.proofs.Curves.{each-curve, sizes}
-use Rattle.poly.specs.Ranges.{part}
+use Rattle.poly.specs.inner.Lanes.{lanes}
+use Rattle.poly.proofs.LaneLaws.{lanes-at, lanes-below}
+use Rattle.poly.specs.inner.Ranges.{Below, part}
 use Rattle.poly.proofs.Parts.{part-at, length-part}
 use Rattle.poly.proofs.Blocks.{block-fits}
 use Rattle.code.specs.Passing.{passing, upTo}
 use Rattle.code.specs.Points.{ysOf}
-use Rattle.code.specs.Columns.{Ys}
+use Rattle.code.specs.inner.Columns.{Ys, PaddedYs}
 use Rattle.code.proofs.Columns.{length-ys}
 use Rattle.code.proofs.Weights.{quotient, remainder}
 
@@ -24,9 +31,16 @@ use Rattle.code.proofs.Weights.{quotient, remainder}
 abbrev pub yAt : ℕ → ℕ → ℕ
 yAt q p = getD (ysOf q (p / q)) (p % q) 0
 
-pub ys-table : (q : ℕ) → IsCurve q → (list : List ℕ) → length list ≡ 64 → T (agrees (yAt q) 0 (q * q * q) list) → Ys q list
-ys-table q curve list long test = record { long = long; column = column }
+pub ys-table : (q : ℕ) → IsCurve q → (list : List ℕ) → length list ≡ 64 → T (agrees (yAt q) 0 (q * q * q) list)
+    → T (every 64 (λ p. ltb (getD list p 0) (fieldOf q .size))) → Ys q list
+ys-table q curve list long test small = record { long = long; column = column; symbols = symbols }
   where
+    symbols : Below (fieldOf q .size) list
+    symbols p = elim (decLt p 64) [
+      | yes l ↦ ltb→lt (getD list p 0) (fieldOf q .size) (of-every 64 (λ p. ltb (getD list p 0) (fieldOf q .size)) small p l)
+      | no d ↦ rw (List·getD-eq-default list 0 {n = p} (omega arith)) (zero-lt (fieldOf q))
+    ]
+
     within : (x : ℕ) → x < q * q → q * x + q ≤ q * q * q
     within x l = omega (arith, sizes q curve .grid, mul-suc q x, mul-le-mul-left q l)
 
@@ -48,6 +62,24 @@ table-fits q curve x s l b = omega (arith, sizes q curve .grid, sizes q curve .p
 
 pub table-at : (q : ℕ) (list : List ℕ) → Ys q list → (x s : ℕ) → x < q * q → s < q → getD list (q * x + s) 0 ≡ getD (ysOf q x) s 0
 table-at q list h x s l b = sym (part-at list (q * x) (q * x + q) s (omega arith)) ∙ ap (λ (u : List ℕ). getD u s 0) (h .column x l)
+
+-- a table, and zeros after it
+pub padded-table : (q : ℕ) (list padded : List ℕ) → Ys q list → length padded ≡ 80 → ((p : ℕ) → getD padded p 0 ≡ getD list p 0) → PaddedYs q padded
+padded-table q list padded h long same =
+    record {
+      long = long;
+      at = λ x s l b. same (q * x + s) ∙ table-at q list h x s l b;
+      symbols = λ p. rw (same p) (h .symbols p);
+    }
+
+-- sixteen symbols from the y of column x on
+module _ (q x : ℕ) (all ys : List ℕ) (h : PaddedYs q all) (e : ys ≡ lanes (λ s. getD all (q * x + s) 0)) where
+  pub taken-below : Below (fieldOf q .size) ys
+  taken-below = rw e (lanes-below (λ s. getD all (q * x + s) 0) (fieldOf q .size) (λ s l. h .symbols (q * x + s)))
+
+  pub taken-at : IsCurve q → x < q * q → (s : ℕ) → s < q → getD ys s 0 ≡ getD (ysOf q x) s 0
+  taken-at curve l s b =
+      ap (λ (l : List ℕ). getD l s 0) e ∙ lanes-at (λ s. getD all (q * x + s) 0) s (omega (arith, sizes q curve .high)) ∙ h .at x s l b
 
 -- the columns of each curve begin those of the larger
 pub columns-take : (q : ℕ) → IsCurve q → take (q * q) (upTo 16) ≡ upTo (q * q)

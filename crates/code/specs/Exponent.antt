@@ -4,10 +4,10 @@ use Prim.Native.Nat.{ℕ, zero, suc, _^_}
 use lib.Dec.{leb}
 
 -- from r upwards, at most `steps` steps
-unfoldable pub climb : ℕ → ℕ → ℕ → ℕ → ℕ
-climb zero Q n r = r
-climb (suc steps) Q n r = let higher = climb steps Q n (suc r) in cond (leb n (Q ^ r)) r higher
+unfoldable pub exponentFrom : ℕ → ℕ → ℕ → ℕ → ℕ
+exponentFrom zero Q n r = r
+exponentFrom (suc steps) Q n r = let higher = exponentFrom steps Q n (suc r) in cond (leb n (Q ^ r)) r higher
 
 unfoldable pub exponent : ℕ → ℕ → ℕ
-unfolding climb
-exponent Q n = climb n Q n 0
+unfolding exponentFrom
+exponent Q n = exponentFrom n Q n 0

@@ -2,7 +2,6 @@ pub mod Passing
 pub mod Points
 pub mod Terms
 pub mod Word
-pub mod Grid
 pub mod Checks
 pub mod Answers
 pub mod Encoded
@@ -10,9 +9,4 @@ pub mod Exponent
 pub mod Fitting
 pub mod Unencoded
 pub mod Recovered
-pub mod Columns
-pub mod Encodable
-pub mod Rows
-pub mod Recovering
-pub mod Readable
-pub mod Highest
+pub mod inner

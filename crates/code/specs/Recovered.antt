@@ -29,10 +29,10 @@ unfoldable pub reading : (Q k : ℕ) → (List ℕ → List ℕ) → List ℕ �
 reading Q k word broken = read Q (fitting Q k word broken)
 
 -- "9. No message fits. 10. Two or more messages fit; the second number is r, where exactly Q to the power r fit."
-unfoldable pub told : Reading → List ℕ → Answer
-told nothing slice = answered NoMessage slice
-told (message v) slice = answered Done v
-told (several r) slice = answered (Several r) slice
+unfoldable pub answerOf : Reading → List ℕ → Answer
+answerOf nothing slice = answered NoMessage slice
+answerOf (message v) slice = answered Done v
+answerOf (several r) slice = answered (Several r) slice
 
 -- 1, 2, 3, 4 (255 allowed), 5
 abbrev pub recoverChecks : ℕ → ℕ → List ℕ → List ℕ → Outcome
@@ -40,4 +40,4 @@ recoverChecks q m broken slice = callChecks true true q m broken (length slice)
 
 unfoldable pub recovered : ℕ → ℕ → List ℕ → List ℕ → Answer
 recovered q m broken slice =
-    unlessRefused (recoverChecks q m broken slice) slice (told (reading (curveOf q .symbols) (size q m) (wordOf q (columnsOf q) m) broken) slice)
+    unlessRefused (recoverChecks q m broken slice) slice (answerOf (reading (curveOf q .symbols) (size q m) (wordOf q (columnsOf q) m) broken) slice)

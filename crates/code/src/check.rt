@@ -5,7 +5,7 @@ ghost use lib.ListN.{length};
 ghost use Rattle.field.specs.declared.outcome.Outcome.the-variants.{Done};
 ghost use Rattle.field.specs.Values.{badValue, firstBad};
 ghost use Rattle.code.specs.Checks.{orderChecks, sliceChecks, callChecks};
-ghost use Rattle.code.specs.Highest.{Highest};
+ghost use Rattle.code.specs.inner.Highest.{Highest};
 use crate::term;
 use field::Curve;
 use field::Named;
@@ -36,7 +36,7 @@ fn is_bad(gaps: bool, size: u8, x: u8) -> bool
     true
 }
 
-// The highest value, or 0 where there are none. The loop has no way out, so that it becomes vector code.
+// The highest value, or 0 where there are none. Nothing returns from within the loop, so that it becomes vector code.
 pub fn highest(values: &[u8]) -> u8
     ensures { λ r. ⌜ Highest (now (values .entry)) (length (now (values .entry))) r ⌝ }
 {

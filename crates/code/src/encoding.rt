@@ -1,11 +1,13 @@
 // Encoding: a message to the word of its values.
 ghost use mathlib.Core.Path.{_≡_};
-ghost use Prim.Native.Nat.{_≤_, _<_};
+ghost use Prim.Native.Nat.{ℕ, _*_, _≤_, _<_};
 ghost use lib.ListN.{length};
+ghost use Rattle.field.specs.Curve.{IsCurve};
 ghost use Rattle.field.proofs.Fields.{fieldOf};
-ghost use Rattle.poly.specs.Ranges.{Below, Blocks};
+ghost use Rattle.poly.specs.inner.Linear.{entry};
+ghost use Rattle.poly.specs.inner.Ranges.{Below, Blocks};
 ghost use Rattle.code.specs.Word.{wordOf};
-ghost use Rattle.code.specs.Encodable.{Encodable, Staged, Rowed, ValuedAt, columnValue};
+ghost use Rattle.code.specs.inner.Encodable.{Encodable, Staged, Rowed, inY, columnValue};
 ghost use Rattle.code.specs.Answers.{answered};
 ghost use Rattle.code.specs.Encoded.{encoded};
 use crate::check;
@@ -14,50 +16,59 @@ use crate::point;
 use crate::term;
 use field::Curve;
 use field::Outcome;
+use poly::lanes;
 use poly::polynomial;
 use poly::rows;
 
-// The first stage: each y^j's polynomial in x, with n coefficients, at every column; row j of rows is for y^j.
+// The first stage: each y^j's polynomial in x, with n coefficients, at every column; row j of rows, sixteen lanes, is for y^j.
 fn evaluate_rows(q: u8, columns: &[u8], n: usize, grid: &[u8], rows: &mut [u8])
-    requires { ⌜ Staged q (now columns) (now grid) (now rows) × (1 ≤ n) × (n ≤ length (now columns)) × Below (fieldOf q .size) (now rows) ⌝ }
+    requires { ⌜ Staged q (now columns) (now grid) × Below (fieldOf q .size) (now rows) ⌝ }
+    requires { ⌜ (1 ≤ n) × (q * n ≤ length (now grid)) × (16 * q ≤ length (now rows)) ⌝ }
     ensures { λ _. ⌜ Rowed q (now (columns .entry)) n (now (grid .entry)) (now (rows .exit)) q ⌝ }
 {
     let width = q as usize;
-    let c = columns.len();
+    let mut places = [0u8; 16];
+    rows::copy(columns.len(), columns, &mut places);
     let mut j = 0;
     let mut at = 0;
     while j < width {
-        let end = at + c;
-        polynomial::evaluate_at(q, grid, j, width, n, columns, &mut rows[at..end]);
+        let end = at + 16;
+        let k = polynomial::terms(grid, j, width, n);
+        let row = polynomial::evaluate(q, grid, j, width, k, &places);
+        rows::copy(16, &row, &mut rows[at..end]);
         at = end;
         j += 1;
     }
 }
 
-// The second stage at one y of each column, that with number s: each column's polynomial in y at its own.
-fn evaluate_ys(q: u8, columns: &[u8], rows: &[u8], s: usize, word: &mut [u8])
-    requires { ⌜ Staged q (now columns) (now rows) (now word) × (s < q) ⌝ }
-    ensures { λ _. ⌜ ValuedAt q (now (columns .entry)) (now (rows .entry)) s (now (word .entry)) (now (word .exit)) ⌝ }
+// The second stage at the column with number t: its polynomial in y at each of its y, in its part of the word.
+fn evaluate_column(q: u8, ys: &[u8; 16], rows: &[u8], t: usize, part: &mut [u8])
+    requires { ⌜ IsCurve q × Below (fieldOf q .size) (now ys) × Below (fieldOf q .size) (now rows) ⌝ }
+    requires { ⌜ (t < 16) × (16 * q ≤ length (now rows)) × (length (now part) ≡ q) ⌝ }
+    ensures { λ _. ⌜ ((s : ℕ) → s < q → entry (now (part .exit)) s ≡ inY q (now (rows .entry)) t (entry (now (ys .entry)) s)) ⌝ }
 {
     let width = q as usize;
-    let c = columns.len();
-    let mut ys = [0u8; 16];
-    point::ys_at(q, columns, s, &mut ys[..c]);
-    let mut out = [0u8; 16];
-    polynomial::evaluate_each(q, width, rows, &ys[..c], &mut out[..c]);
-    rows::spread(s, width, &out[..c], word);
+    let values = polynomial::evaluate(q, rows, t, 16, width, ys);
+    lanes::store(&values, part);
 }
 
-// The second stage: each column's polynomial in y at the column's y, in that column's part of the word.
+// The second stage: column by column, in the part of the word that starts at q times the column's number.
 fn evaluate_columns(q: u8, columns: &[u8], rows: &[u8], word: &mut [u8])
-    requires { ⌜ Staged q (now columns) (now rows) (now word) ⌝ }
+    requires { ⌜ Staged q (now columns) (now rows) × (16 * q ≤ length (now rows)) × (q * length (now columns) ≤ length (now word)) ⌝ }
     ensures { λ _. ⌜ Blocks q (columnValue q (now (columns .entry)) (now (rows .entry))) (now (word .exit)) (length (now (columns .entry))) ⌝ }
 {
     let width = q as usize;
-    let mut s = 0;
-    while s < width {
-        evaluate_ys(q, columns, rows, s, word);
-        s += 1;
+    let c = columns.len();
+    let all = point::padded_ys(q);
+    let mut t = 0;
+    let mut at = 0;
+    while t < c {
+        let from = width * (columns[t] as usize);
+        let end = at + width;
+        let ys = lanes::take(&all, from);
+        evaluate_column(q, &ys, rows, t, &mut word[at..end]);
+        at = end;
+        t += 1;
     }
 }
 

@@ -3,9 +3,9 @@ ghost use mathlib.Core.Path.{_≡_};
 ghost use Prim.Native.Nat.{ℕ, _≤_, _<_};
 ghost use lib.ListN.{length, getD, replicate};
 ghost use Rattle.field.specs.Curve.{IsCurve};
-ghost use Rattle.poly.specs.Ranges.{writes};
+ghost use Rattle.poly.specs.inner.Ranges.{writes};
 ghost use Rattle.code.specs.Terms.{size};
-ghost use Rattle.code.specs.Grid.{listed, scatter, gather, orderAtMost};
+ghost use Rattle.code.specs.inner.Grid.{listed, scatter, gather, orderAtMost};
 use crate::check;
 use crate::term;
 use field::Curve;
@@ -53,7 +53,8 @@ pub fn gather_listed(entries: &[u16], grid: &[u8], out: &mut [u8])
     }
 }
 
-// Whether a grid has no coefficient of a weight above m. An entry's weight is at least its number, and less than q·q more.
+// Whether a grid has no coefficient of a weight above m. The weight of entry e is at least e and less than e + q·q, so that the first
+// entries need no test and all after entry m have to be 0.
 pub fn order_at_most(q: u8, m: usize, grid: &[u8]) -> bool
     requires { ⌜ IsCurve q × (length (now grid) ≤ 512) ⌝ }
     ensures { λ r. ⌜ r ≡ orderAtMost q m (length (now (grid .entry))) (now (grid .entry)) ⌝ }

@@ -1,13 +1,11 @@
 // The points of the curves, column by column.
-ghost use mathlib.Core.List.{map};
 ghost use mathlib.Core.Path.{_≡_};
-ghost use Prim.Native.Nat.{_*_, _≤_, _<_};
-ghost use lib.ListN.{length, getD};
 ghost use Rattle.field.specs.Curve.{IsCurve};
-ghost use Rattle.poly.specs.Ranges.{Blocks};
+ghost use Rattle.field.proofs.Fields.{fieldOf};
+ghost use Rattle.poly.specs.inner.Interpolation.{VanishingTree};
 ghost use Rattle.code.specs.Passing.{upTo};
-ghost use Rattle.code.specs.Points.{ysOf};
-ghost use Rattle.code.specs.Columns.{Ys, Columns, columnY};
+ghost use Rattle.code.specs.Points.{columnsOf};
+ghost use Rattle.code.specs.inner.Columns.{Ys, PaddedYs};
 use poly::rows;
 
 // The y of each column, ascending, column by column.
@@ -22,6 +20,31 @@ const YS_4: [u8; 64] = *b"\
     \x08\x09\x0e\x0f\x08\x09\x0e\x0f\x08\x09\x0e\x0f\x0a\x0b\x0c\x0d\
     \x02\x03\x04\x05\x08\x09\x0e\x0f\x02\x03\x04\x05\x0a\x0b\x0c\x0d\
     \x02\x03\x04\x05\x0a\x0b\x0c\x0d\x08\x09\x0e\x0f\x02\x03\x04\x05";
+
+// The vanishing polynomials of all columns, of their halves, of the halves of these, and so on.
+const TREE_2: [u8; 160] = *b"\
+    \x00\x01\x00\x00\x01\x00\x01\x01\x01\x01\x01\x00\x00\x00\x01\x01\
+    \x01\x02\x01\x03\x01\x00\x00\x00\x00\x00\x00\x00\x00\x00\x00\x00\
+    \x00\x00\x00\x00\x00\x00\x00\x00\x00\x00\x00\x00\x00\x00\x00\x00\
+    \x00\x00\x00\x00\x00\x00\x00\x00\x00\x00\x00\x00\x00\x00\x00\x00\
+    \x00\x00\x00\x00\x00\x00\x00\x00\x00\x00\x00\x00\x00\x00\x00\x00\
+    \x00\x00\x00\x00\x00\x00\x00\x00\x00\x00\x00\x00\x00\x00\x00\x00\
+    \x00\x00\x00\x00\x00\x00\x00\x00\x00\x00\x00\x00\x00\x00\x00\x00\
+    \x00\x00\x00\x00\x00\x00\x00\x00\x00\x00\x00\x00\x00\x00\x00\x00\
+    \x00\x00\x00\x00\x00\x00\x00\x00\x00\x00\x00\x00\x00\x00\x00\x00\
+    \x00\x00\x00\x00\x00\x00\x00\x00\x00\x00\x00\x00\x00\x00\x00\x00";
+
+const TREE_4: [u8; 160] = *b"\
+    \x00\x01\x00\x00\x00\x00\x00\x00\x00\x00\x00\x00\x00\x00\x00\x00\
+    \x01\x00\x01\x01\x00\x01\x00\x00\x00\x01\x01\x01\x01\x00\x01\x00\
+    \x00\x00\x01\x00\x00\x00\x00\x00\x00\x00\x00\x00\x00\x00\x00\x00\
+    \x00\x00\x06\x07\x00\x01\x07\x06\x07\x00\x01\x00\x00\x00\x00\x00\
+    \x00\x08\x06\x07\x00\x01\x0f\x06\x07\x00\x01\x00\x00\x00\x00\x00\
+    \x00\x00\x01\x01\x06\x01\x01\x00\x00\x07\x01\x01\x01\x01\x01\x00\
+    \x00\x04\x01\x01\x02\x01\x01\x00\x00\x03\x01\x01\x05\x01\x01\x00\
+    \x00\x00\x01\x01\x01\x02\x01\x03\x01\x04\x01\x05\x01\x06\x01\x07\
+    \x01\x08\x01\x09\x01\x0a\x01\x0b\x01\x0c\x01\x0d\x01\x0e\x01\x0f\
+    \x01\x00\x00\x00\x00\x00\x00\x00\x00\x00\x00\x00\x00\x00\x00\x00";
 
 const COLUMNS: [u8; 16] = [0, 1, 2, 3, 4, 5, 6, 7, 8, 9, 10, 11, 12, 13, 14, 15];
 
@@ -45,18 +68,15 @@ pub fn ys(q: u8) -> [u8; 64]
     if q == 2 { ys_2() } else { ys_4() }
 }
 
-// The y number s of each of the columns.
-pub fn ys_at(q: u8, columns: &[u8], s: usize, out: &mut [u8])
-    requires { ⌜ Columns q (now columns) × (s < q) × (length (now out) ≡ length (now columns)) ⌝ }
-    ensures { λ _. ⌜ now (out .exit) ≡ map (λ x. getD (ysOf q x) s 0) (now (columns .entry)) ⌝ }
+// The same, and zeros after them: sixteen can be taken from each column's y on.
+pub fn padded_ys(q: u8) -> [u8; 80]
+    requires { ⌜ IsCurve q ⌝ }
+    ensures { λ r. ⌜ PaddedYs q r ⌝ }
 {
-    let width = q as usize;
-    let ys = ys(q);
-    let mut t = 0;
-    while t < columns.len() {
-        out[t] = ys[width * (columns[t] as usize) + s];
-        t += 1;
-    }
+    let all = ys(q);
+    let mut r = [0u8; 80];
+    rows::copy(64, &all, &mut r);
+    r
 }
 
 // All columns of the larger curve, ascending; the smaller one's are the first of them.
@@ -66,38 +86,22 @@ pub fn columns() -> [u8; 16]
     COLUMNS
 }
 
-// The columns, once for each power of y.
-pub fn xs_list(q: u8, columns: &[u8], out: &mut [u8])
-    requires { ⌜ q * length (now columns) ≤ length (now out) ⌝ }
-    ensures { λ _. ⌜ Blocks (length (now (columns .entry))) (λ j t. getD (now (columns .entry)) t 0) (now (out .exit)) q ⌝ }
+fn tree_2() -> [u8; 160]
+    ensures { λ r. ⌜ VanishingTree (fieldOf 2) (upTo 4) r ⌝ }
 {
-    let width = q as usize;
-    let c = columns.len();
-    let mut j = 0;
-    let mut at = 0;
-    while j < width {
-        let end = at + c;
-        rows::copy(c, columns, &mut out[at..end]);
-        at = end;
-        j += 1;
-    }
+    TREE_2
 }
 
-// The y of the columns, column by column.
-pub fn ys_list(q: u8, columns: &[u8], out: &mut [u8])
-    requires { ⌜ Columns q (now columns) × (q * length (now columns) ≤ length (now out)) ⌝ }
-    ensures { λ _. ⌜ Blocks q (columnY q (now (columns .entry))) (now (out .exit)) (length (now (columns .entry))) ⌝ }
+fn tree_4() -> [u8; 160]
+    ensures { λ r. ⌜ VanishingTree (fieldOf 4) (upTo 16) r ⌝ }
 {
-    let width = q as usize;
-    let all = ys(q);
-    let mut t = 0;
-    let mut at = 0;
-    while t < columns.len() {
-        let from = width * (columns[t] as usize);
-        let to = from + width;
-        let end = at + width;
-        rows::copy(width, &all[from..to], &mut out[at..end]);
-        at = end;
-        t += 1;
-    }
+    TREE_4
+}
+
+// The tree of vanishing polynomials of all columns of the curve q.
+pub fn tree(q: u8) -> [u8; 160]
+    requires { ⌜ IsCurve q ⌝ }
+    ensures { λ r. ⌜ VanishingTree (fieldOf q) (columnsOf q) r ⌝ }
+{
+    if q == 2 { tree_2() } else { tree_4() }
 }

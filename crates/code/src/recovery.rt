@@ -6,18 +6,19 @@ ghost use lib.ListN.{length};
 ghost use Rattle.field.specs.Curve.{IsCurve};
 ghost use Rattle.field.specs.Power.{power};
 ghost use Rattle.field.proofs.Fields.{fieldOf};
-ghost use Rattle.poly.specs.Ranges.{writes, Blocks};
-ghost use Rattle.poly.specs.Linear.{entry};
-ghost use Rattle.poly.specs.Systems.{flat, Full, WellFormed, Brought, Solves};
+ghost use Rattle.poly.specs.inner.Ranges.{writes, Blocks};
+ghost use Rattle.poly.specs.inner.Linear.{entry};
+ghost use Rattle.poly.specs.inner.Interpolation.{VanishingTree};
+ghost use Rattle.poly.specs.inner.Systems.{flat, Full, WellFormed, Brought, Solves};
 ghost use Rattle.code.specs.Terms.{size};
-ghost use Rattle.code.specs.Grid.{entriesOf};
-ghost use Rattle.code.specs.Columns.{Columns};
-ghost use Rattle.code.specs.Rows.{equationOf};
-ghost use Rattle.code.specs.Recovering.{termAt, EquationAt, BrokenOver, Advanced, Ended, Finished};
+ghost use Rattle.code.specs.inner.Grid.{entriesOf};
+ghost use Rattle.code.specs.inner.Columns.{Columns};
+ghost use Rattle.code.specs.inner.Rows.{equationOf};
+ghost use Rattle.code.specs.inner.Recovering.{termAt, EquationAt, BrokenOver, Advanced, Ended, Finished};
 ghost use Rattle.code.specs.Word.{wordOf};
 ghost use Rattle.code.specs.Fitting.{agrees, fits};
 ghost use Rattle.code.specs.Answers.{answered};
-ghost use Rattle.code.specs.Recovered.{reading, told, recovered};
+ghost use Rattle.code.specs.Recovered.{reading, answerOf, recovered};
 use crate::check;
 use crate::encoding;
 use crate::grid;
@@ -266,7 +267,7 @@ fn recover_by_equations(
     message: &mut [u8],
 ) -> Outcome
     requires { ⌜ BrokenOver q (now columns) m (now word) × (k ≡ size q m) × (length (now message) ≡ size q m) × (size q m < 64) ⌝ }
-    ensures { λ r. ⌜ told (reading (fieldOf q .size) (size q m) (wordOf q (now (columns .entry)) m) (now (word .entry))) (now (message .entry))
+    ensures { λ r. ⌜ answerOf (reading (fieldOf q .size) (size q m) (wordOf q (now (columns .entry)) m) (now (word .entry))) (now (message .entry))
         ≡ answered r (now (message .exit)) ⌝ }
 {
     let mut work = [0u8; 4096];
@@ -288,18 +289,20 @@ fn recover_by_equations(
 fn recover_over(
     q: u8,
     columns: &[u8],
+    tree: &[u8],
     m: usize,
     k: usize,
     word: &[u8],
     message: &mut [u8],
 ) -> Outcome
     requires { ⌜ BrokenOver q (now columns) m (now word) × (k ≡ size q m) × (length (now message) ≡ size q m) × (size q m < 64) ⌝ }
-    ensures { λ r. ⌜ told (reading (fieldOf q .size) (size q m) (wordOf q (now (columns .entry)) m) (now (word .entry))) (now (message .entry))
+    requires { ⌜ VanishingTree (fieldOf q) (now columns) (now tree) ⌝ }
+    ensures { λ r. ⌜ answerOf (reading (fieldOf q .size) (size q m) (wordOf q (now (columns .entry)) m) (now (word .entry))) (now (message .entry))
         ≡ answered r (now (message .exit)) ⌝ }
 {
     let curve = Curve::at(q);
     if check::first_bad(false, curve.symbols, word) == word.len() {
-        return unencoding::read_word(q, columns, m, word, message);
+        return unencoding::read_word(q, columns, tree, m, word, message);
     }
     recover_by_equations(q, columns, m, k, word, message)
 }
@@ -313,9 +316,10 @@ pub fn recover(q: u8, m: u8, word: &[u8], message: &mut [u8]) -> Outcome
     let Outcome::Done = checked else {
         return checked;
     };
+    let tree = point::tree(q);
     let columns = point::columns();
     let curve = Curve::at(q);
     let c = curve.symbols as usize;
     let k = message.len();
-    recover_over(q, &columns[..c], order, k, word, message)
+    recover_over(q, &columns[..c], &tree, order, k, word, message)
 }

@@ -4,9 +4,9 @@ ghost use mathlib.Core.Path.{_≡_};
 ghost use Prim.Native.Nat.{ℕ, _/_, _%_, _^_, _≤_, _<_};
 ghost use lib.ListN.{length, getD};
 ghost use Rattle.field.specs.Curve.{IsCurve, curveOf};
-ghost use Rattle.poly.specs.Ranges.{writes};
+ghost use Rattle.poly.specs.inner.Ranges.{writes};
 ghost use Rattle.code.specs.Terms.{size};
-ghost use Rattle.code.specs.Grid.{WeightOfTerm, entriesOf};
+ghost use Rattle.code.specs.inner.Grid.{WeightOfTerm, entriesOf};
 use field::Curve;
 
 pub struct Quotient {
@@ -55,13 +55,14 @@ fn low_weight(q: u8, n: usize) -> usize
     requires { ⌜ IsCurve q × (n < curveOf q .genus) ⌝ }
     ensures { λ r. ⌜ WeightOfTerm q n r ⌝ }
 {
+    let curve = Curve::at(q);
     let mut row = 0;
     let mut before = 0;
     while before + row < n {
         row += 1;
         before += row;
     }
-    (q as usize) * row + (n - before)
+    curve.weight_x * row + (n - before)
 }
 
 // The weight of term n, the terms being counted from 0 by ascending weight.
@@ -76,7 +77,7 @@ fn weight(q: u8, n: usize) -> usize
     low_weight(q, n)
 }
 
-// The entry of term n, x^i·y^j, in a grid: q·i + j.
+// The entry of term n, x^i·y^j, in a grid: q·i + j, which is q·j less than its weight.
 pub fn entry(q: u8, n: usize) -> usize
     requires { ⌜ IsCurve q × (n < 2 ^ 63) ⌝ }
     ensures { λ r. ⌜ ((m : ℕ) → n < size q m → r ≡ getD (entriesOf q m) n 0) ⌝ }
@@ -84,7 +85,7 @@ pub fn entry(q: u8, n: usize) -> usize
     let curve = Curve::at(q);
     let w = weight(q, n);
     let d = divide(q, w);
-    w - curve.weight_y * d.rest + d.rest
+    w - curve.weight_x * d.rest
 }
 
 // Writes the entries of the terms of the order m, by ascending weight.

@@ -13,9 +13,9 @@ use Rattle.field.specs.declared.outcome.Outcome.the-variants.{Done, BadValue}
 use Rattle.field.specs.Outcomes.{number}
 use Rattle.code.specs.Answers.{Answer}
 use Rattle.code.specs.Checks.{badValue, firstBad, sliceChecks}
-use Rattle.code.specs.Recovered.{Reading, nothing, message, several, told, recoverChecks}
+use Rattle.code.specs.Recovered.{Reading, nothing, message, several, answerOf, recoverChecks}
 use Rattle.code.proofs.Checks.{slices-value, slices-passed, call-past}
-use Rattle.code.proofs.Recoveries.{readingOf, recovered-refused, recovered-told}
+use Rattle.code.proofs.Recoveries.{readingOf, recovered-refused, recovered-answer}
 use Rattle.code.proofs.Weights.{size-from-genus}
 use Rattle.lines.specs.Page.{outcomeOf}
 
@@ -23,11 +23,11 @@ use Rattle.lines.specs.Page.{outcomeOf}
 abbrev pub Read : ℕ → Type 0
 Read n = (n ≡ 0) ⊎ ((n ≡ 9) ⊎ (n ≡ 10))
 
-told-read : (r : Reading) (slice : List ℕ) → Read (number (told r slice .outcome))
-unfolding told
-told-read nothing slice = inr (inl refl)
-told-read (message v) slice = inl refl
-told-read (several n) slice = inr (inr refl)
+answer-read : (r : Reading) (slice : List ℕ) → Read (number (answerOf r slice .outcome))
+unfolding answerOf
+answer-read nothing slice = inr (inl refl)
+answer-read (message v) slice = inl refl
+answer-read (several n) slice = inr (inr refl)
 
 module _ (block : List ℕ) (long : length block ≡ 64) where
   -- the lowest index of a bad value, or 64
@@ -35,7 +35,8 @@ module _ (block : List ℕ) (long : length block ≡ 64) where
   bad = firstBad (badValue true 16) block
 
   checked : (o : Outcome) → o ≡ sliceChecks true 16 64 block 32 32 Done → recoverChecks 4 37 block (replicate 32 0) ≡ o
-  checked o e = sym (call-past true true 4 37 block 32 o 64 32 (inr refl, omega arith) refl (sym (size-from-genus 4 (omega arith) 37 (omega arith))) e)
+  checked o e =
+      sym (call-past true true 4 37 block 32 o 64 32 (inr refl, omega arith) refl (sym (size-from-genus 4 (omega arith) 37 (omega arith))) e)
 
   pub bad-exactly : ((bad < 64) × (number (outcomeOf block) ≡ 4)) ⊎ ((64 ≤ bad) × Read (number (outcomeOf block)))
   bad-exactly =
@@ -45,6 +46,6 @@ module _ (block : List ℕ) (long : length block ≡ 64) where
             inl (h, ap (λ (a : Answer). number (a .outcome)) (recovered-refused 4 37 block (replicate 32 0) (BadValue bad) refused refl))
         | no h ↦
             let passed = checked Done (sym (slices-passed true 16 64 block 32 32 Done long bad refl (omega arith) refl)) in
-            let says = sym (recovered-told 4 37 block (replicate 32 0) passed) in
-            inr (omega arith, subst (λ (a : Answer). Read (number (a .outcome))) says (told-read (readingOf 4 37 block) (replicate 32 0)))
+            let says = sym (recovered-answer 4 37 block (replicate 32 0) passed) in
+            inr (omega arith, subst (λ (a : Answer). Read (number (a .outcome))) says (answer-read (readingOf 4 37 block) (replicate 32 0)))
       ]

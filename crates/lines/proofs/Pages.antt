@@ -13,7 +13,7 @@ use Rattle.field.specs.declared.outcome.Outcome.{Outcome}
 use Rattle.field.specs.Outcomes.{number, second}
 use Rattle.code.specs.Answers.{Answer, answered}
 use Rattle.code.specs.Recovered.{recovered}
-use Rattle.code.specs.Columns.{Ys}
+use Rattle.code.specs.inner.Columns.{Ys}
 use Rattle.code.proofs.Checks.{good-symbol, good-gap, bad-gap}
 use Rattle.code.proofs.YsTables.{table-at}
 use Rattle.lines.specs.Text.{hexDigit, joined, Written}

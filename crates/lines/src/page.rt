@@ -2,7 +2,7 @@
 ghost use mathlib.Core.Path.{_≡_};
 ghost use Prim.Native.Nat.{_+_, _*_, _/_, _≤_, _<_};
 ghost use lib.ListN.{length};
-ghost use Rattle.code.specs.Columns.{Ys};
+ghost use Rattle.code.specs.inner.Columns.{Ys};
 ghost use Rattle.lines.specs.Text.{joined, Written};
 ghost use Rattle.lines.specs.Page.{character as Page·character};
 ghost use Rattle.lines.specs.Page.{pointText, columnLine, severalText, resultText, lastLine, pageOf, pagesOf};

@@ -43,7 +43,8 @@ unfolding count below
 count-insert zero i p p′ l f t h = absurd (omega arith)
 count-insert (suc n) i p p′ l f t h = go (ℕ-discrete n i) (λ b. count-insert n i p p′ b f t (λ x a. h x (omega arith)))
   where
-    go : Dec (n ≡ i) → (i < n → count p′ (below n) ≡ suc (count p (below n))) → oneIf (p′ n) + count p′ (below n) ≡ suc (oneIf (p n) + count p (below n))
+    go : Dec (n ≡ i) → (i < n → count p′ (below n) ≡ suc (count p (below n)))
+        → oneIf (p′ n) + count p′ (below n) ≡ suc (oneIf (p n) + count p (below n))
     go (yes e) ih =
         let same : count p′ (below n) ≡ count p (below n)
         = count-cong p′ p (below n) (λ x m. h x (omega (arith, of-mem-below n x m)) (omega (arith, of-mem-below n x m))) in

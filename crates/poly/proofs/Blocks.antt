@@ -5,12 +5,12 @@ use mathlib.Core.Path.{_≡_, sym, ap, _∙_}
 use Prim.Native.Nat.{ℕ, _+_, _-_, _*_, _/_, _%_, _≤_, _<_}
 use native.Mathlib.Nat.{mul-suc, mul-le-mul-left, div-add-mod, mod-lt, div-lt-iff-lt-mul, mul-comm}
 use native.Mathlib.Numerals.{add-one}
-use native.Mathlib.Decide.{ℕ-discrete, decLt}
+use native.Mathlib.Decide.{ℕ-discrete}
 use native.Mathlib.Omega.{arith}
 use borrow.Rule.Slice.PartMut.{putMid}
-use lib.ListN.{length, getD, List·getD-eq-default}
+use lib.ListN.{length, getD}
 use lib.Seq.{ext-getD}
-use Rattle.poly.specs.Ranges.{Below, Blocks, put}
+use Rattle.poly.specs.inner.Ranges.{Blocks, put}
 use Rattle.poly.proofs.Parts.{put-is, put-low, put-in}
 
 pub blocks-none : (width : ℕ) (f : ℕ → ℕ → ℕ) (l : List ℕ) → Blocks width f l 0
@@ -19,7 +19,8 @@ blocks-none width f l = record { at = λ i j a b. absurd (omega arith) }
 -- one block more
 pub blocks-more : (width : ℕ) (f : ℕ → ℕ → ℕ) (l ys : List ℕ) (n a e : ℕ) → Blocks width f l n → a ≡ width * n → e ≡ a + width → e ≤ length l
     → length ys ≡ width → ((j : ℕ) → j < width → getD ys j 0 ≡ f n j) → Blocks width f (putMid a (e - a) l ys) (n + 1)
-blocks-more width f l ys n a e h is-a is-e fits long new = record { at = λ i j u v. ap (λ (x : List ℕ). getD x (width * i + j) 0) (put-is l a e ys (omega arith)) ∙ go i j u v (ℕ-discrete i n) }
+blocks-more width f l ys n a e h is-a is-e fits long new =
+    record { at = λ i j u v. ap (λ (x : List ℕ). getD x (width * i + j) 0) (put-is l a e ys (omega arith)) ∙ go i j u v (ℕ-discrete i n) }
   where
     go : (i j : ℕ) → i < n + 1 → j < width → Dec (i ≡ n) → getD (put l a e ys) (width * i + j) 0 ≡ f i j
     go i j u v (yes d) =
@@ -53,11 +54,3 @@ module _ (width : ℕ) (pos : 0 < width) (n : ℕ) where
   pub blocks-ext : (f : ℕ → ℕ → ℕ) (l k : List ℕ) → length l ≡ width * n → length k ≡ width * n → Blocks width f l n → Blocks width f k n → l ≡ k
   blocks-ext f l k ll lk hl hk =
       ext-getD 0 l k (ll ∙ sym lk) (λ p b. let w : p < width * n = omega arith in blocks-at f l hl p w ∙ sym (blocks-at f k hk p w))
-
-  -- blocks of small numbers
-  pub blocks-below : (f : ℕ → ℕ → ℕ) (l : List ℕ) (b : ℕ) → 0 < b → length l ≡ width * n → Blocks width f l n
-      → ((i j : ℕ) → i < n → j < width → f i j < b) → Below b l
-  blocks-below f l b z ll h small p = elim (decLt p (width * n)) [
-    | yes k ↦ let w = block-of p k in rw (blocks-at f l h p k) (small (p / width) (p % width) (w .0) (w .1))
-    | no d ↦ rw (List·getD-eq-default l 0 {n = p} (omega arith)) z
-  ]

@@ -5,9 +5,9 @@ use mathlib.Core.List.{List}
 use Prim.Native.Nat.{ℕ, _+_, _-_, _≤_, _<_}
 use native.Mathlib.Omega.{arith}
 use Rattle.field.specs.Field.{Field}
-use Rattle.poly.specs.Linear.{entry, dot, Holds}
-use Rattle.poly.specs.Rows.{divided, placed}
-use Rattle.poly.specs.Systems.{System, flat, rank, WellFormed, Equation, Reducing, Reduced, Joined, Excluded, Brought}
+use Rattle.poly.specs.inner.Linear.{entry, dot, Holds}
+use Rattle.poly.specs.inner.Rows.{divided, placed}
+use Rattle.poly.specs.inner.Systems.{System, flat, rank, WellFormed, Equation, Reducing, Reduced, Joined, Excluded, Brought}
 use Rattle.poly.specs.declared.system.Effect.{Effect}
 use Rattle.poly.specs.declared.system.Effect.the-variants.{Pivot, Redundant, Contradiction}
 use Rattle.poly.proofs.Linear.{dot-cong, dot-zero}

@@ -12,7 +12,7 @@ use Rattle.field.proofs.Plus.{plus-ac, plus-self, zero-plus, eq-of-plus-zero}
 use Rattle.field.proofs.FieldLaws.{times-zero, plus-times, times-left-comm, times-one-right, inverse-times, times-cancel}
 use Rattle.field.proofs.Powers.{power-zero, power-suc, power-add, power-lt}
 use Rattle.field.proofs.Sums.{sum-cong, sum-plus, sum-single, sum-even}
-use Rattle.poly.specs.Polynomials.{value}
+use Rattle.poly.specs.inner.Polynomials.{value}
 use Rattle.poly.proofs.Values.{value-none, value-suc, value-cong, value-scale, value-sum, value-lt}
 
 -- what stands twice in a sum goes
@@ -81,9 +81,12 @@ module _ (F : Field) where
     summed-value yl vl different roots s sl =
         ap₂ plus (value-sum F n n (λ u j. F .times (values u) (falling n (ys u) j)) (ys s)) constant
         ∙ sym (sum-plus n (λ u. value F n (λ j. F .times (values u) (falling n (ys u) j)) (ys s)) (λ u. F .times (values u) 1))
-        ∙ sum-cong n _ term (λ u l. ap (λ (v : ℕ). plus v (F .times (values u) 1)) (value-scale F n (values u) (falling n (ys u)) (ys s)) ∙ sym (F .times-plus (values u) _ 1))
+        ∙ sum-cong n _ term
+        (λ u l.
+        ap (λ (v : ℕ). plus v (F .times (values u) 1)) (value-scale F n (values u) (falling n (ys u)) (ys s)) ∙ sym (F .times-plus (values u) _ 1))
         ∙ sum-single n s term sl
-        (λ u l d. ap (λ (v : ℕ). F .times (values u) (plus v 1)) (at-other n (ys u) (ys s) (yl u l) (yl s sl) (λ e. d (different u s l sl e)) (roots u s l sl))
+        (λ u l d. ap (λ (v : ℕ). F .times (values u) (plus v 1))
+        (at-other n (ys u) (ys s) (yl u l) (yl s sl) (λ e. d (different u s l sl e)) (roots u s l sl))
         ∙ ap (F .times (values u)) (plus-self 1) ∙ times-zero F (values u))
         ∙ ap (λ (v : ℕ). F .times (values s) (plus v 1)) (at-root n h even (ys s))
         ∙ ap (F .times (values s)) (zero-plus 1) ∙ times-one-right F (values s) (vl s sl)
@@ -94,4 +97,5 @@ module _ (F : Field) where
         constant : summed n ys values n (n - 1) ≡ sum n (λ u. F .times (values u) 1)
         constant =
             sum-cong n (λ u. F .times (values u) (falling n (ys u) (n - 1))) (λ u. F .times (values u) 1)
-            (λ u l. let e : n - 1 - (n - 1) ≡ 0 = omega arith in ap (λ (k : ℕ). F .times (values u) (power F (ys u) k)) e ∙ ap (F .times (values u)) (power-zero F (ys u)))
+            (λ u l. let e : n - 1 - (n - 1) ≡ 0 = omega arith in
+            ap (λ (k : ℕ). F .times (values u) (power F (ys u) k)) e ∙ ap (F .times (values u)) (power-zero F (ys u)))

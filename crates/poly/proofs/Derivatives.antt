@@ -13,7 +13,7 @@ use Rattle.field.proofs.Plus.{plus-ac, low-bit, bit-plus, plus-zero, zero-plus}
 use Rattle.field.proofs.FieldLaws.{zero-lt, times-zero, zero-times, plus-times}
 use Rattle.field.proofs.Powers.{power-add, power-times}
 use Rattle.field.proofs.Sums.{sum-none, sum-suc, sum-cong, sum-blocks}
-use Rattle.poly.specs.Polynomials.{value, derivative, linear, product}
+use Rattle.poly.specs.inner.Polynomials.{value, derivative, linear}
 use Rattle.poly.proofs.Values.{value-cong, value-plus, value-scale, value-extend, value-first}
 
 -- ---- the derivative of any polynomial
@@ -47,7 +47,10 @@ module _ (F : Field) where
           let twice : 2 * i ≡ i + i = omega arith in
           sum-suc 1 (λ j. term (2 * i + j))
           ∙ ap₂ plus
-          (sum-suc 0 (λ j. term (2 * i + j)) ∙ ap (λ (v : ℕ). plus v (term (2 * i + 0))) (sum-none (λ j. term (2 * i + j))) ∙ zero-plus (term (2 * i + 0)) ∙ ap term even)
+          (sum-suc 0 (λ j. term (2 * i + j))
+          ∙ ap (λ (v : ℕ). plus v (term (2 * i + 0))) (sum-none (λ j. term (2 * i + j)))
+          ∙ zero-plus (term (2 * i + 0))
+          ∙ ap term even)
           (ap (λ (v : ℕ). F .times v (power F x (2 * i + 1))) (derivative-odd f (2 * i + 1) (omega arith)) ∙ zero-times F (power F x (2 * i + 1)))
           ∙ plus-zero (term (2 * i))
           ∙ ap₂ (F .times) (derivative-even f i)
@@ -79,7 +82,8 @@ module _ (F : Field) where
 
   derivative-linear : (a : ℕ) (f : ℕ → ℕ) (i : ℕ) → derivative (linear F a f) i ≡ plus (F .times a (derivative f i)) (evens f i)
   unfolding derivative linear evens
-  derivative-linear a f i = bit-plus (suc i) (F .times a (f (suc i))) (f i) ∙ ap (λ (v : ℕ). plus v (suc i % 2 * f i)) (bit-times (suc i) a (f (suc i)))
+  derivative-linear a f i =
+      bit-plus (suc i) (F .times a (f (suc i))) (f i) ∙ ap (λ (v : ℕ). plus v (suc i % 2 * f i)) (bit-times (suc i) a (f (suc i)))
 
   -- x times the derivative has the terms of odd degree
   times-derivative : (n : ℕ) (f : ℕ → ℕ) (x : ℕ) → f n ≡ 0 → F .times x (value F n (derivative f) x) ≡ value F n (odds f) x
@@ -88,7 +92,8 @@ module _ (F : Field) where
       sym (plus-zero (F .times x (value F n (derivative f) x)))
       ∙ ap (plus (F .times x (value F n (derivative f) x))) (sym (zero-mul (f 0)))
       ∙ sym (value-first F n (odds f) x (rw (zero-mul (f 0)) (zero-lt F)))
-      ∙ value-extend F n (suc n) (odds f) x (omega arith) (λ i a b. let e : i ≡ n = omega arith in rw e (ap (λ (v : ℕ). n % 2 * v) z ∙ mul-zero (n % 2)))
+      ∙ value-extend F n (suc n) (odds f) x (omega arith)
+      (λ i a b. let e : i ≡ n = omega arith in rw e (ap (λ (v : ℕ). n % 2 * v) z ∙ mul-zero (n % 2)))
 
   pub value-derivative-linear : (n a : ℕ) (f : ℕ → ℕ) (x : ℕ) → f n ≡ 0
       → value F n (derivative (linear F a f)) x ≡ plus (F .times (plus x a) (value F n (derivative f) x)) (value F n f x)

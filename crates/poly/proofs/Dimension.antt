@@ -15,7 +15,13 @@ pow-reflects-le : (q z w : ℕ) → 1 < q → q ^ z ≤ q ^ w → z ≤ w
 pow-reflects-le q z w h l = elim (decLe z w) [
   | yes a ↦ a
   | no a ↦
-      absurd (omega (arith, pow-le-pow-right {n = q} (omega arith) {i = suc w} {j = z} (omega arith), pow-suc q w, one-le-pow w q (omega arith), mul-le-mul-left (q ^ w) h))
+      absurd (omega (
+        arith,
+        pow-le-pow-right {n = q} (omega arith) {i = suc w} {j = z} (omega arith),
+        pow-suc q w,
+        one-le-pow w q (omega arith),
+        mul-le-mul-left (q ^ w) h,
+      ))
 ]
 
 module _ (q : ℕ) (two-le : 1 < q) (w z : ℕ) (f : List ℕ → List ℕ) where

@@ -17,8 +17,8 @@ use Rattle.field.proofs.Plus.{plus-self}
 use Rattle.field.proofs.FieldLaws.{times-zero, times-one-right, inverse-times, inverse-ne-zero}
 use Rattle.poly.specs.Lists.{count}
 use Rattle.poly.specs.Messages.{Vector, all}
-use Rattle.poly.specs.Linear.{entry, dot}
-use Rattle.poly.specs.Systems.{System, Satisfies, rank}
+use Rattle.poly.specs.inner.Linear.{entry, dot}
+use Rattle.poly.specs.inner.Systems.{System, Satisfies, rank}
 use Rattle.poly.proofs.Bools.{T-dec}
 use Rattle.poly.proofs.Lists.{count-none}
 use Rattle.poly.proofs.Messages.{of-mem-all}

@@ -1,13 +1,16 @@
 -- What stands at an index of a list: of zeros, after a store; and lists of symbols.
 -- Assumes nothing.
 use mathlib.Core.List.{List, [], _∷_, map}
-use mathlib.Core.Path.{_≡_, refl, ap₂}
-use Prim.Native.Nat.{ℕ, zero, suc, _≤_, _<_}
+use mathlib.Core.Path.{_≡_, refl, sym, ap₂, _∙_}
+use Prim.Native.Nat.{ℕ, _≤_, _<_}
 use native.Mathlib.Decide.{decLt, ℕ-discrete}
 use native.Mathlib.Omega.{arith}
 use lib.ListN.{length, getD, take, set, replicate, getD-replicate, length-replicate, List·getD-eq-default}
 use lib.Seq.{getD-set-same, getD-set-other, set-out}
-use Rattle.poly.specs.Ranges.{Below}
+use Rattle.poly.specs.inner.Linear.{entry}
+use Rattle.poly.specs.inner.Rows.{stored}
+use Rattle.poly.specs.inner.Ranges.{Below}
+use Rattle.poly.proofs.Writes.{writes-in, writes-out}
 use Rattle.poly.proofs.Parts.{below-take}
 
 abbrev pub zeros : ℕ → List ℕ
@@ -38,3 +41,11 @@ below-set b list i v s l k = go (ℕ-discrete k i) (decLt i (length list))
     go (no d) e = rw (getD-set-other list i k v 0 d) (s k)
     go (yes h) (yes in-range) = rw (h, getD-set-same list i v 0 in-range) l
     go (yes h) (no d) = rw (set-out list i v (omega arith)) (s k)
+
+-- l in the front of zeros
+pub padded : (k n : ℕ) (l : List ℕ) → length l ≤ n → n ≤ k → (t : ℕ) → getD (stored n l (zeros k)) t 0 ≡ getD l t 0
+unfolding stored
+padded k n l short fits t = elim (decLt t n) [
+  | yes b ↦ writes-in (zeros k) (entry l) n t b (omega (arith, length-replicate {A = ℕ} k 0))
+  | no d ↦ writes-out (zeros k) (entry l) n t (omega arith) ∙ getD-zeros k t ∙ sym (List·getD-eq-default l 0 {n = t} (omega arith))
+]

@@ -11,7 +11,7 @@ use Rattle.field.specs.Plus.{plus}
 use Rattle.field.specs.Field.{Field}
 use Rattle.field.proofs.Plus.{plus-self, eq-of-plus-zero}
 use Rattle.poly.specs.Messages.{Vector, all}
-use Rattle.poly.specs.Linear.{entry, dot}
+use Rattle.poly.specs.inner.Linear.{entry, dot}
 use Rattle.poly.proofs.Lists.{find}
 use Rattle.poly.proofs.Messages.{mem-all, of-mem-all, tabulate, getD-tabulate, vector-tabulate, vector-ext}
 use Rattle.poly.proofs.Linear.{dot-lt, dot-local, dot-plus-vector}

@@ -8,8 +8,8 @@ use native.Mathlib.Decide.{ℕ-discrete}
 use native.Mathlib.Omega.{arith}
 use lib.Dec.{T, T-not}
 use Rattle.field.specs.Field.{Field}
-use Rattle.poly.specs.Linear.{dot}
-use Rattle.poly.specs.Systems.{System, Satisfies, rank}
+use Rattle.poly.specs.inner.Linear.{dot}
+use Rattle.poly.specs.inner.Systems.{System, Satisfies, rank}
 use Rattle.poly.proofs.Below.{count-insert}
 use Rattle.poly.proofs.Linear.{dot-cong}
 use Rattle.poly.proofs.Triangular.{Triangular}

@@ -1,31 +1,51 @@
 -- The join by halves: what is asked of each half and given by it, and the whole.
 -- Assumes nothing.
-use mathlib.Core.Path.{_≡_, sym, ap, ap₂, _∙_}
+use mathlib.Core.Path.{_≡_, sym, ap, ap₂, _∙_, subst}
 use mathlib.Core.List.{List, _++_, append-nil}
-use Prim.Native.Nat.{ℕ, _+_, _-_, _*_, _/_, _≤_, _<_}
-use native.Mathlib.Nat.{le-of-lt}
+use Prim.Native.Nat.{ℕ, _+_, _-_, _*_, _≤_, _<_}
+use native.Mathlib.Nat.{le-of-lt, mul-add, mul-le-mul-right}
+use native.Mathlib.Decide.{decLt}
 use native.Mathlib.Omega.{arith}
-use lib.ListN.{length, take, drop, length-take, length-drop, length-append}
-use lib.Seq.{length-take-le, take-at, drop-at, drop-length}
+use lib.ListN.{length, getD, take, drop, length-take, length-drop, length-append, take-append-drop, List·getD-eq-default}
+use lib.Seq.{length-take-le, take-at, drop-at, drop-length, getD-take}
 use borrow.Rule.Slice.PartMut.{putMid}
 use Rattle.field.specs.Plus.{plus}
 use Rattle.field.specs.Field.{Field}
-use Rattle.poly.specs.Ranges.{Below, part}
-use Rattle.poly.specs.Polynomials.{value, product}
-use Rattle.poly.specs.Interpolation.{strand, spread, Joinable, Combined, Joined}
-use Rattle.poly.proofs.Parts.{part-rest, below-take, below-drop, below-append}
+use Rattle.poly.specs.inner.Ranges.{Below, part}
+use Rattle.poly.specs.inner.Polynomials.{value, product, vanishing}
+use Rattle.poly.specs.inner.Interpolation.{interleaved, lagrangeSum, half, coefficientCount, Node, Padded, Joinable, Halves, Combined, Joined}
+use Rattle.poly.proofs.Parts.{part-rest, length-part, part-at, below-part, below-take, below-drop, below-append}
 use Rattle.poly.proofs.Values.{value-cong}
-use Rattle.poly.proofs.Strands.{strand-take, strand-drop, strand-left, strand-right}
-use Rattle.poly.proofs.Spreads.{spread-cong, spread-halves, spread-one}
-use Rattle.poly.proofs.Halves.{half-le, left-length, right-length}
+use Rattle.poly.proofs.Vanishings.{vanishing-degree, vanishing-value}
+use Rattle.poly.proofs.Interleaving.{place-lt, interleaved-take, interleaved-drop}
+use Rattle.poly.proofs.LagrangeSums.{lagrangeSum-cong, lagrangeSum-halves, lagrangeSum-one}
+use Rattle.poly.proofs.Halves.{block-in}
+
+-- two parts of a list
+below-halves : (q n : ℕ) (l : List ℕ) → Below q (take n l) → Below q (drop n l) → Below q l
+below-halves q n l a b = subst (Below q) (take-append-drop n l) (below-append q (take n l) (drop n l) a b)
 
 module _ (F : Field) where
-  pub joined-one : (w : ℕ) (columns rows : List ℕ) → Joinable F w columns rows → length columns < 2 → Joined F w columns rows rows
-  joined-one w columns rows p h = record { below = p .part-below; is = λ j x jw. spread-one F columns (strand w rows j) x (omega (arith, p .some)) }
+  -- one column is joined as it is
+  pub joined-one : (w : ℕ) (columns rows : List ℕ) → Joinable F w columns rows → length columns ≡ 1 → Joined F w columns rows rows
+  joined-one w columns rows p one = record {
+    below = p .work-below;
+    is = λ j x jw.
+        value-cong F (length columns) (interleaved w rows j) (interleaved 16 rows j) x
+        (λ i b. let z : i ≡ 0 = omega arith in ap (λ (u : ℕ). getD rows (u + j) 0) (first i z))
+        ∙ lagrangeSum-one F columns (interleaved 16 rows j) x one;
+    padded = λ b t k m n.
+        let z : b ≡ 0 = omega (arith, p .narrow, ap (λ (c : ℕ). w * c) one) in
+        ap (λ (u : ℕ). getD rows (16 * u + t) 0) z
+        ∙ p .zeros 0 t (omega arith) (omega (arith, ap (λ (c : ℕ). w * c) one, ap (λ (u : ℕ). 16 * u) z)) m;
+  }
+    where
+      first : (i : ℕ) → i ≡ 0 → w * i ≡ 16 * i
+      first i z = omega (arith, ap (λ (u : ℕ). w * u) z)
 
   module _ (w : ℕ) (columns rows : List ℕ) (p : Joinable F w columns rows) (two : 2 ≤ length columns) where
     abbrev h : ℕ
-    h = length columns / 2
+    h = half columns
 
     low : 1 ≤ h
     low = omega arith
@@ -33,100 +53,219 @@ module _ (F : Field) where
     high : h < length columns
     high = omega arith
 
-    pub rows-le : w * h ≤ length rows
-    rows-le = half-le F w h columns rows p low high
+    split : 16 * length columns ≡ 16 * h + 16 * (length columns - h)
+    split = let up : length columns ≡ h + (length columns - h) = omega arith in ap (λ (n : ℕ). 16 * n) up ∙ mul-add 16 h (length columns - h)
 
-    pub left-asks : Joinable F w (take h columns) (take (w * h) rows)
-    left-asks =
-        let l : length (take h columns) ≡ h = length-take-le h columns (le-of-lt high) in
+    pub rows-le : 16 * h ≤ length rows
+    rows-le = omega (arith, p .long, split)
+
+    left-long : length (take (16 * h) rows) ≡ 16 * h
+    left-long = length-take-le (16 * h) rows rows-le
+
+    right-long : length (drop (16 * h) rows) ≡ 16 * (length columns - h)
+    right-long = length-drop (16 * h) rows ∙ omega (arith, p .long, split)
+
+    first-columns : length (take h columns) ≡ h
+    first-columns = length-take-le h columns (le-of-lt high)
+
+    pub left-asks : Joinable F w (take h columns) (take (16 * h) rows)
+    left-asks = record {
+      columns-below = below-take (F .size) columns h (p .columns-below);
+      work-below = below-take (F .size) rows (16 * h) (p .work-below);
+      few = omega (arith, first-columns, high, p .few);
+      narrow = p .narrow;
+      long = left-long ∙ ap (λ (n : ℕ). 16 * n) (sym first-columns);
+      zeros = λ t j l b k.
+          let i : t < h = omega (arith, first-columns) in
+          getD-take (16 * h) rows (16 * t + j) 0 (place-lt 16 t j h k i) ∙ p .zeros t j (omega (arith, high)) b k;
+    }
+
+    left-one : h ≡ 1 → Joined F w (take h columns) (take (16 * h) rows) (take (16 * h) rows)
+    left-one e = joined-one w (take h columns) (take (16 * h) rows) left-asks (first-columns ∙ e)
+
+    right-asks-of : (once : List ℕ) → drop (16 * h) once ≡ drop (16 * h) rows → Joinable F w (drop h columns) (drop (16 * h) once)
+    right-asks-of once e = rw e
+        (record {
+          columns-below = below-drop (F .size) columns h (p .columns-below);
+          work-below = below-drop (F .size) rows (16 * h) (p .work-below);
+          few = omega (arith, length-drop h columns, p .few);
+          narrow = p .narrow;
+          long = right-long ∙ ap (λ (n : ℕ). 16 * n) (sym (length-drop h columns));
+          zeros = λ t j l b k. interleaved-drop 16 rows j h t ∙ p .zeros (h + t) j (omega (arith, length-drop h columns)) b k;
+        })
+
+    -- the first half is joined, the other as it was
+    pub record FirstJoined (once : List ℕ) : Type 0 where
+      pub long : length once ≡ length rows
+      pub first : Joined F w (take h columns) (take (16 * h) rows) (take (16 * h) once)
+      pub rest : drop (16 * h) once ≡ drop (16 * h) rows
+
+    -- the first rows have come back as ys, or there is one
+    pub first-joined : (once ys : List ℕ) → length ys ≡ length (take (16 * h) rows) → once ≡ ys ++ drop (16 * h) rows
+        → Joined F w (take h columns) (take (16 * h) rows) ys → FirstJoined once
+    first-joined once ys ly e j =
+        let l = ly ∙ left-long in
         record {
-          columns-below = below-take (F .size) columns h (p .columns-below);
-          part-below = below-take (F .size) rows (w * h) (p .part-below);
-          some = omega (arith, low);
-          few = omega (arith, high, p .few);
-          long = left-length F w h columns rows p low high ∙ ap (λ (n : ℕ). w * n) (sym l);
-          small = omega (arith, left-length F w h columns rows p low high, rows-le, p .small);
+          long = ap length e ∙ length-append ys (drop (16 * h) rows) ∙ omega (arith, l, length-drop (16 * h) rows, rows-le);
+          first =
+              subst (Joined F w (take h columns) (take (16 * h) rows)) (sym (ap (take (16 * h)) e ∙ take-at ys (drop (16 * h) rows) (16 * h) l)) j;
+          rest = ap (drop (16 * h)) e ∙ drop-at ys (drop (16 * h) rows) (16 * h) l;
         }
 
-    -- the first rows have come back as ys
-    module _ (ys : List ℕ) (ly : length ys ≡ length (take (w * h) rows)) where
-      abbrev once : List ℕ
-      once = ys ++ drop (w * h) rows
+    pub first-alone : (once : List ℕ) → once ≡ rows → h ≤ 1 → FirstJoined once
+    first-alone once e one = record {
+      long = ap length e;
+      first = rw e (left-one (omega (arith, low)));
+      rest = ap (drop (16 * h)) e;
+    }
 
-      ys-length : length ys ≡ w * h
-      ys-length = ly ∙ left-length F w h columns rows p low high
+    module _ (once : List ℕ) (o : FirstJoined once) where
+      pub first-le : 16 * h ≤ length once
+      first-le = omega (arith, o .long, rows-le)
 
-      pub once-le : w * h ≤ length once
-      once-le = omega (arith, length-append ys (drop (w * h) rows), ys-length)
+      pub right-asks : Joinable F w (part columns h (length columns)) (part once (16 * h) (length once))
+      right-asks = rw (part-rest columns h, part-rest once (16 * h)) (right-asks-of once (o .rest))
 
-      lent : part once (w * h) (length once) ≡ drop (w * h) rows
-      lent = part-rest once (w * h) ∙ drop-at ys (drop (w * h) rows) (w * h) ys-length
+      -- both halves are joined
+      pub record BothJoined (twice : List ℕ) : Type 0 where
+        pub long : length twice ≡ length rows
+        pub first : Joined F w (take h columns) (take (16 * h) rows) (take (16 * h) twice)
+        pub others : Joined F w (drop h columns) (drop (16 * h) rows) (drop (16 * h) twice)
 
-      pub right-asks : Joinable F w (part columns h (length columns)) (part once (w * h) (length once))
-      right-asks =
-          let r : length (drop (w * h) rows) ≡ w * (length columns - h) = right-length F w h columns rows p low high in
-          rw (part-rest columns h, lent)
-          (record {
-            columns-below = below-drop (F .size) columns h (p .columns-below);
-            part-below = below-drop (F .size) rows (w * h) (p .part-below);
-            some = omega (arith, length-drop h columns, high);
-            few = omega (arith, length-drop h columns, p .few);
-            long = r ∙ ap (λ (n : ℕ). w * n) (sym (length-drop h columns));
-            small = omega (arith, length-drop (w * h) rows, p .small);
-          })
+      -- the other rows have come back as zs, or there is one
+      pub both-joined : (twice zs : List ℕ) → length zs ≡ length (part once (16 * h) (length once))
+          → twice ≡ putMid (16 * h) (length once - 16 * h) once zs
+          → Joined F w (part columns h (length columns)) (part once (16 * h) (length once)) zs → BothJoined twice
+      both-joined twice zs lz e j =
+          let back : twice ≡ take (16 * h) once ++ zs
+          = e
+          ∙ ap (λ (v : List ℕ). take (16 * h) once ++ (zs ++ v))
+          (ap (λ (n : ℕ). drop n (drop (16 * h) once)) (sym (length-drop (16 * h) once)) ∙ drop-length (drop (16 * h) once))
+          ∙ ap (λ (u : List ℕ). take (16 * h) once ++ u) (append-nil zs) in
+          let front : length (take (16 * h) once) ≡ 16 * h = length-take-le (16 * h) once first-le in
+          let given : Joined F w (drop h columns) (drop (16 * h) rows) zs
+          = subst (λ (l : List ℕ). Joined F w l (drop (16 * h) rows) zs) (part-rest columns h)
+          (subst (λ (l : List ℕ). Joined F w (part columns h (length columns)) l zs) (part-rest once (16 * h) ∙ o .rest) j) in
+          record {
+            long =
+                ap length back
+                ∙ length-append (take (16 * h) once) zs
+                ∙ omega (arith, front, lz ∙ ap length (part-rest once (16 * h) ∙ o .rest), right-long, rows-le, p .long, split);
+            first =
+                subst (Joined F w (take h columns) (take (16 * h) rows))
+                (sym (ap (take (16 * h)) back ∙ take-at (take (16 * h) once) zs (16 * h) front)) (o .first);
+            others =
+                subst (Joined F w (drop h columns) (drop (16 * h) rows))
+                (sym (ap (drop (16 * h)) back ∙ drop-at (take (16 * h) once) zs (16 * h) front)) given;
+          }
 
-      -- and the others as zs
-      module _ (zs : List ℕ) (lz : length zs ≡ length (part once (w * h) (length once))) where
-        abbrev twice : List ℕ
-        twice = putMid (w * h) (length once - w * h) once zs
+      pub others-alone : (twice : List ℕ) → twice ≡ once → length columns ≤ h + 1 → BothJoined twice
+      others-alone twice e one =
+          let single : length (drop h columns) ≡ 1 = omega (arith, length-drop h columns, high) in
+          record {
+            long = ap length e ∙ o .long;
+            first = rw e (o .first);
+            others = subst (λ (l : List ℕ). Joined F w (drop h columns) l (drop (16 * h) twice)) (ap (drop (16 * h)) e ∙ o .rest)
+                (joined-one w (drop h columns) (drop (16 * h) twice) (right-asks-of twice (ap (drop (16 * h)) e ∙ o .rest)) single);
+          }
 
-        twice-is : twice ≡ ys ++ zs
-        twice-is =
-            ap₂ (λ (u v : List ℕ). u ++ (zs ++ v)) (take-at ys (drop (w * h) rows) (w * h) ys-length)
-            (ap (λ (n : ℕ). drop n (drop (w * h) once)) (sym (length-drop (w * h) once)) ∙ drop-length (drop (w * h) once))
-            ∙ ap (λ (u : List ℕ). ys ++ u) (append-nil zs)
+      module _ (twice : List ℕ) (d : BothJoined twice) where
+        at-first : (i : ℕ) → i < 16 * h → getD twice i 0 ≡ getD (take (16 * h) twice) i 0
+        at-first i l = sym (getD-take (16 * h) twice i 0 l)
 
-        pub twice-length : length twice ≡ length rows
-        twice-length = ap length twice-is ∙ length-append ys zs ∙ omega (arith, ys-length, lz ∙ ap length lent, length-drop (w * h) rows, rows-le)
+        module _ (tree : List ℕ) (at mid end : ℕ) (node : Node F tree at columns) (small : Below (F .size) tree)
+            (is-mid : mid ≡ at + coefficientCount columns) (is-end : end ≡ mid + coefficientCount columns) where
+          abbrev k : ℕ
+          k = coefficientCount columns
 
-        pub twice-asks : Below (F .size) ys → Below (F .size) zs → Joinable F w columns twice
-        twice-asks by bz = record {
-          columns-below = p .columns-below;
-          part-below = rw twice-is (below-append (F .size) ys zs by bz);
-          some = p .some;
-          few = p .few;
-          long = twice-length ∙ p .long;
-          small = omega (arith, twice-length, p .small);
-        }
+          abbrev f : List ℕ
+          f = part tree at mid
 
-        pub twice-gives : (out : List ℕ) → Joined F w (take h columns) (take (w * h) rows) ys → Joined F w (part columns h (length columns)) (part once (w * h) (length once)) zs
-            → Combined F w h columns twice out → Joined F w columns rows out
-        twice-gives out a b c = record { below = c .below; is = joined }
-          where
-            left : (j x : ℕ) → j < w → value F h (strand w twice j) x ≡ spread F (take h columns) (strand w rows j) x
-            left j x jw =
-                let l : length (take h columns) ≡ h = length-take-le h columns (le-of-lt high) in
-                value-cong F h (strand w twice j) (strand w ys j) x
-                (λ i b. ap (λ (s : List ℕ). strand w s j i) twice-is ∙ strand-left w ys zs j h i ys-length jw b)
-                ∙ ap (λ (n : ℕ). value F n (strand w ys j) x) (sym l)
-                ∙ a .is j x jw
-                ∙ spread-cong F (take h columns) (strand w (take (w * h) rows) j) (strand w rows j) x (λ t b. strand-take w rows j h t jw (omega arith))
+          abbrev g : List ℕ
+          g = part tree mid end
 
-            right : (j x : ℕ) → j < w → value F (length columns - h) (λ i. strand w twice j (h + i)) x ≡ spread F (drop h columns) (λ t. strand w rows j (h + t)) x
-            right j x jw =
-                let l : length (part columns h (length columns)) ≡ length columns - h = ap length (part-rest columns h) ∙ length-drop h columns in
-                value-cong F (length columns - h) (λ i. strand w twice j (h + i)) (strand w zs j) x
-                (λ i b. ap (λ (s : List ℕ). strand w s j (h + i)) twice-is ∙ strand-right w ys zs j h i ys-length)
-                ∙ ap (λ (n : ℕ). value F n (strand w zs j) x) (sym l)
-                ∙ b .is j x jw
-                ∙ ap₂ (λ (l s : List ℕ). spread F l (strand w s j) x) (part-rest columns h) lent
-                ∙ spread-cong F (drop h columns) (strand w (drop (w * h) rows) j) (λ t. strand w rows j (h + t)) x (λ t b. strand-drop w rows j h t)
+          f-at : (i : ℕ) → i < k → getD f i 0 ≡ vanishing F (take h columns) i
+          f-at i l = part-at tree at mid i (omega arith) ∙ node .first i l
 
-            joined : (j x : ℕ) → j < w → value F (length columns) (strand w out j) x ≡ spread F columns (strand w rows j) x
-            joined j x jw =
-                c .is j x jw
-                ∙ ap₂ (λ (u v : ℕ). plus (F .times (product F (drop h columns) x) u) (F .times (product F (take h columns) x) v)) (left j x jw) (right j x jw)
-                ∙ sym (spread-halves F h columns (strand w rows j) x (le-of-lt high))
+          g-at : (i : ℕ) → i < k → getD g i 0 ≡ vanishing F (drop h columns) i
+          g-at i l =
+              let e : mid + i ≡ at + (k + i) = omega arith in
+              part-at tree mid end i (omega arith) ∙ ap (λ (x : ℕ). getD tree x 0) e ∙ node .others i l
+
+          others-padded : Padded (w * (length columns - h)) (drop (16 * h) twice)
+          others-padded = subst (λ (n : ℕ). Padded (w * n) (drop (16 * h) twice)) (length-drop h columns) (d .others .padded)
+
+          first-padded : Padded (w * h) (take (16 * h) twice)
+          first-padded = subst (λ (n : ℕ). Padded (w * n) (take (16 * h) twice)) first-columns (d .first .padded)
+
+          f-length : length f ≡ k
+          f-length = length-part tree at mid (omega arith) (omega (arith, node .room)) ∙ omega arith
+
+          g-length : length g ≡ k
+          g-length = length-part tree mid end (omega arith) (omega (arith, node .room)) ∙ omega arith
+
+          pub halves : Halves F w h (length columns) f g twice
+          halves = record {
+            some = low;
+            more = high;
+            even = omega arith;
+            few = p .few;
+            narrow = p .narrow;
+            long = d .long ∙ p .long;
+            work-below = below-halves (F .size) (16 * h) twice (d .first .below) (d .others .below);
+            f-below = below-part (F .size) tree at mid small;
+            g-below = below-part (F .size) tree mid end small;
+            f-long = f-length;
+            g-long = g-length;
+            degree = λ i l. elim (decLt i k) [
+              | yes m ↦ f-at i m ∙ vanishing-degree F (take h columns) i (omega (arith, first-columns))
+              | no m ↦ List·getD-eq-default f 0 {n = i} (omega (arith, f-length))
+            ];
+            first = λ b t l m n. at-first (16 * b + t) (omega (arith, block-in w h b (p .narrow) l)) ∙ first-padded b t l m n;
+            others = others-padded;
+          }
+
+          pub joined : (out : List ℕ) → Combined F w h (length columns) f g twice out → Joined F w columns rows out
+          joined out c = record { below = c .below; is = is; padded = c .padded }
+            where
+              narrow : w ≤ 16
+              narrow = omega (arith, p .narrow)
+
+              left : (j x : ℕ) → j < w → value F h (interleaved w twice j) x ≡ lagrangeSum F (take h columns) (interleaved 16 rows j) x
+              left j x jw =
+                  value-cong F h (interleaved w twice j) (interleaved w (take (16 * h) twice) j) x
+                  (λ i l.
+                  let m : w * i + j < w * h = place-lt w i j h jw l in
+                  let n : w * h ≤ 16 * h = mul-le-mul-right h narrow in
+                  at-first (w * i + j) (omega arith))
+                  ∙ ap (λ (n : ℕ). value F n (interleaved w (take (16 * h) twice) j) x) (sym first-columns)
+                  ∙ d .first .is j x jw
+                  ∙ lagrangeSum-cong F (take h columns) (interleaved 16 (take (16 * h) rows) j) (interleaved 16 rows j) x
+                  (λ t l. interleaved-take 16 rows j h t (omega (arith, p .narrow)) (omega (arith, first-columns)))
+
+              right : (j x : ℕ) → j < w → value F (length columns - h) (interleaved w (drop (16 * h) twice) j) x
+                  ≡ lagrangeSum F (drop h columns) (λ t. interleaved 16 rows j (h + t)) x
+              right j x jw =
+                  ap (λ (n : ℕ). value F n (interleaved w (drop (16 * h) twice) j) x) (sym (length-drop h columns))
+                  ∙ d .others .is j x jw
+                  ∙ lagrangeSum-cong F (drop h columns) (interleaved 16 (drop (16 * h) rows) j) (λ t. interleaved 16 rows j (h + t)) x
+                  (λ t l. interleaved-drop 16 rows j h t)
+
+              g-value : (x : ℕ) → value F k (λ i. getD g i 0) x ≡ product F (drop h columns) x
+              g-value x =
+                  value-cong F k (λ i. getD g i 0) (vanishing F (drop h columns)) x (λ i l. g-at i l)
+                  ∙ vanishing-value F (drop h columns) k x (omega (arith, length-drop h columns))
+
+              f-value : (x : ℕ) → value F k (λ i. getD f i 0) x ≡ product F (take h columns) x
+              f-value x =
+                  value-cong F k (λ i. getD f i 0) (vanishing F (take h columns)) x (λ i l. f-at i l)
+                  ∙ vanishing-value F (take h columns) k x (omega (arith, first-columns))
+
+              is : (j x : ℕ) → j < w → value F (length columns) (interleaved w out j) x ≡ lagrangeSum F columns (interleaved 16 rows j) x
+              is j x jw =
+                  c .is j x jw
+                  ∙ ap₂ plus (ap₂ (F .times) (g-value x) (left j x jw)) (ap₂ (F .times) (f-value x) (right j x jw))
+                  ∙ sym (lagrangeSum-halves F h columns (interleaved 16 rows j) x (le-of-lt high))
 
     pub left-falls : {t : ℕ} → length columns ≡ t → length (take h columns) < t
     left-falls e = omega (arith, length-take h columns, high)

@@ -9,7 +9,7 @@ use Rattle.field.specs.Field.{Field}
 use Rattle.field.proofs.Plus.{plus-drop}
 use Rattle.field.proofs.FieldLaws.{zero-times, plus-times, times-cancel}
 use Rattle.field.proofs.Sums.{sum-none, sum-suc, sum-cong, sum-plus, sum-extend, sum-scale, sum-lt}
-use Rattle.poly.specs.Linear.{dot}
+use Rattle.poly.specs.inner.Linear.{dot}
 
 module _ (F : Field) where
   pub dot-none : (r v : ℕ → ℕ) → dot F 0 r v ≡ 0

@@ -83,7 +83,8 @@ module _ {A : Type 0} where
   every-of-count p [] h x m = absurd (not-nil m)
   every-of-count p (y ∷ xs) h x m = go (p y) (λ t. t) h (cases-cons m) (λ l. every-of-count p xs l x)
     where
-      go : (b : Bool) → (T b → T (p y)) → suc (length xs) ≤ oneIf b + count p xs → (x ≡ y) ⊎ Mem x xs → (length xs ≤ count p xs → Mem x xs → T (p x)) → T (p x)
+      go : (b : Bool) → (T b → T (p y)) → suc (length xs) ≤ oneIf b + count p xs → (x ≡ y) ⊎ Mem x xs
+          → (length xs ≤ count p xs → Mem x xs → T (p x)) → T (p x)
       go true t l (inl e) below = rw e (t tt)
       go true t l (inr k) below = below (omega arith) k
       go false t l k below = absurd (omega (arith, count-le p xs))
@@ -99,7 +100,8 @@ module _ {A : Type 0} where
   one-of-count p [] h = absurd (omega arith)
   one-of-count p (x ∷ xs) h = go (p x) (λ t. t) h (one-of-count p xs)
     where
-      go : (b : Bool) → (T b → T (p x)) → 0 < oneIf b + count p xs → (0 < count p xs → (y : A) × Mem y xs × T (p y)) → (y : A) × Mem y (x ∷ xs) × T (p y)
+      go : (b : Bool) → (T b → T (p x)) → 0 < oneIf b + count p xs → (0 < count p xs → (y : A) × Mem y xs × T (p y))
+          → (y : A) × Mem y (x ∷ xs) × T (p y)
       go true t l below = (x, head refl, t tt)
       go false t l below = let w = below (omega arith) in (w .0, tail (w .1), w .2)
 
@@ -214,7 +216,10 @@ module _ {A B : Type 0} where
   unfolding flatMap
   mem-flatMap f [] m k = absurd (not-nil m)
   mem-flatMap f {b} {a} (x ∷ xs) m k =
-      elim (cases-cons m) [ inl e ↦ Memᴰ·append-left (flatMap f xs) (subst (λ (c : A). Mem b (f c)) e k) | inr m′ ↦ Memᴰ·append-right (f x) (mem-flatMap f xs m′ k) ]
+      elim (cases-cons m) [
+        | inl e ↦ Memᴰ·append-left (flatMap f xs) (subst (λ (c : A). Mem b (f c)) e k)
+        | inr m′ ↦ Memᴰ·append-right (f x) (mem-flatMap f xs m′ k)
+      ]
 
   pub of-mem-flatMap : (f : A → List B) {b : B} (xs : List A) → Mem b (flatMap f xs) → (a : A) × Mem a xs × Mem b (f a)
   unfolding flatMap

@@ -1,20 +1,17 @@
 -- The laws of vectors and of the list of all of them: each stands there, once.
 -- Assumes nothing.
 use mathlib.Core.Path.{_≡_, refl, sym, ap, _∙_, subst}
-use mathlib.Core.Logic.{inl, inr}
-use mathlib.Core.Bool.{Bool, not}
-use mathlib.Core.List.{List, [], _∷_, _++_, map, flatMap, concat-ne-nil, List·Memᴰ as Mem, List·Memᴰ·head as head, List·Memᴰ·tail as tail}
+use mathlib.Core.List.{List, [], _∷_, map, concat-ne-nil, List·Memᴰ as Mem, List·Memᴰ·head as head, List·Memᴰ·tail as tail}
 use mathlib.Core.List.{List·Memᴰ·cases-cons as cases-cons, List·Memᴰ·not-nil as not-nil, List·Memᴰ·eq-of-singleton, Memᴰ·cast, Memᴰ·map, Memᴰ·of-map}
-use Prim.Native.Nat.{ℕ, zero, suc, _+_, _^_, _<_}
+use Prim.Native.Nat.{ℕ, zero, suc, _^_, _<_}
 use native.Mathlib.Nat.{le-refl, pow-zero, pow-suc}
 use native.Mathlib.Decide.{ℕ-discrete, decLt}
 use native.Mathlib.Omega.{arith}
-use lib.Dec.{T}
 use lib.ListN.{length, getD, take, length-append, length-map, List·getD-append, List·getD-eq-default}
 use lib.Seq.{take-suc, take-all, length-take-le, getD-take, getD-at, ext-getD}
 use Rattle.poly.specs.Lists.{below, Nodup}
 use Rattle.poly.specs.Messages.{Vector, snoc, all}
-use Rattle.poly.specs.Ranges.{Below}
+use Rattle.poly.specs.inner.Ranges.{Below}
 use Rattle.poly.proofs.Lists.{nodup-map, mem-flatMap, of-mem-flatMap, nodup-flatMap, length-flatMap}
 use Rattle.poly.proofs.Below.{length-below, mem-below, of-mem-below, nodup-below}
 
@@ -38,7 +35,11 @@ pub vector-snoc : (q k : ℕ) (v : List ℕ) (x : ℕ) → Vector q k v → x < 
 vector-snoc q k v x h l =
     record {
       len = rw (length-snoc v x) (ap suc (h .len));
-      small = λ i b. elim (ℕ-discrete i k) [ yes e ↦ rw (e, getD-snoc-last v x k (h .len)) l | no d ↦ rw (getD-snoc v x i (omega (arith, h .len))) (h .small i (omega arith)) ];
+      small =
+          λ i b. elim (ℕ-discrete i k) [
+            | yes e ↦ rw (e, getD-snoc-last v x k (h .len)) l
+            | no d ↦ rw (getD-snoc v x i (omega (arith, h .len))) (h .small i (omega arith))
+          ];
     }
 
 pub snoc-take : (k : ℕ) (u : List ℕ) → length u ≡ suc k → u ≡ snoc (take k u) (getD u k 0)
@@ -84,7 +85,9 @@ below-vector q n v e b = record { len = e; small = λ i l. b i }
 pub length-all : (q k : ℕ) → length (all q k) ≡ q ^ k
 unfolding all
 length-all q zero = sym (pow-zero q)
-length-all q (suc k) = length-flatMap (λ v. map (snoc v) (below q)) q (all q k) (λ v. length-map (below q) (snoc v) ∙ length-below q) ∙ rw (length-all q k) (sym (pow-suc q k))
+length-all q (suc k) =
+    length-flatMap (λ v. map (snoc v) (below q)) q (all q k) (λ v. length-map (below q) (snoc v) ∙ length-below q)
+    ∙ rw (length-all q k) (sym (pow-suc q k))
 
 pub mem-all : (q k : ℕ) (v : List ℕ) → Vector q k v → Mem v (all q k)
 unfolding all

@@ -69,7 +69,8 @@ module _ {F : Field} {n : ℕ} (X : OrderDomain F n) where
         among-suc isWeight u _ ih (λ wu. go ih (unshifted-or-sum isWeight w u wu)) v h
       where
         go : ((v : ℕ) → Among isWeight u v → Span F term (Among z n) (Among (unshifted isWeight w) k) (term v))
-            → T (unshifted isWeight w u) ⊎ ((v : ℕ) × (u ≡ w + v) × T (isWeight v)) → Span F term (Among z n) (Among (unshifted isWeight w) k) (term u)
+            → T (unshifted isWeight w u) ⊎ ((v : ℕ) × (u ≡ w + v) × T (isWeight v))
+            → Span F term (Among z n) (Among (unshifted isWeight w) k) (term u)
         go ih (inl r) = span-single u (l, r) (term-lt u)
         go ih (inr (v, e, wv)) = span-bind ih (rw e (multiple-lower v wv))
 
@@ -79,5 +80,6 @@ module _ {F : Field} {n : ℕ} (X : OrderDomain F n) where
           arith,
           unshifted-le isWeight w (λ v wv. weight-add w v ww wv) k,
           dimension F n (w + k) term term-lt (unshifted isWeight w) z λ d m.
-              span-bind (reduced (w + k) (w + k) (omega arith)) (span-agree (h d m) (λ t i. (i .0, tt)) (λ i. among-wider isWeight (omega arith)) λ t i. refl),
+              span-bind (reduced (w + k) (w + k) (omega arith))
+              (span-agree (h d m) (λ t i. (i .0, tt)) (λ i. among-wider isWeight (omega arith)) λ t i. refl),
         )

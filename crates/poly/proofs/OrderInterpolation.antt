@@ -74,7 +74,13 @@ module _ {F : Field} {n : ℕ} (X : OrderDomain F n) where
     where
       go : Dec (t ≡ k) → d t ≡ plus (times (d k) (keep (eqb t k) 1)) (keep (other k t) (d t))
       go (yes e) =
-          rw (e, keep-pass (eqb k k) 1 (eqb-refl k), keep-zero (other k k) (d k) (λ o. absurd (other-ne k k o refl)), plus-zero, times-one-right F (d k) l)
+          rw (
+            e,
+            keep-pass (eqb k k) 1 (eqb-refl k),
+            keep-zero (other k k) (d k) (λ o. absurd (other-ne k k o refl)),
+            plus-zero,
+            times-one-right F (d k) l,
+          )
       go (no e) = rw (keep-zero (eqb t k) 1 (λ h. absurd (e (eqb→eq t k h))), keep-pass (other k t) (d t) (other-is k t e), times-zero F, zero-plus)
 
   -- one order is enough for all functions; first for those that are 0 from k on

@@ -66,6 +66,13 @@ module _ {F : Field} {n : ℕ} (X : OrderDomain F n) where
       let (c, l, v) = coefficients m r in (
         λ w. plus (c w) (keep (eqb w i) (times a 1)),
         λ w. plus-lt _ _ (l w) (omega (arith, keep-le (eqb w i) (times a 1), times-lt a 1)),
-        λ t h. rw (z t h, value-plus m c (λ w. keep (eqb w i) (times a 1)) t, v t h, value-one m (times a 1) i t e, times-assoc, times-one (term i t) (term-lt i t))
+        λ t h. rw (
+          z t h,
+          value-plus m c (λ w. keep (eqb w i) (times a 1)) t,
+          v t h,
+          value-one m (times a 1) i t e,
+          times-assoc,
+          times-one (term i t) (term-lt i t),
+        )
             (simp plus-comm),
       )

@@ -10,7 +10,7 @@ use lib.ListN.{length, getD, take, drop, length-take, length-drop, List·getD-eq
 use lib.Seq.{take-all, getD-take, getD-drop, length-take-le, getD-append-add}
 use borrow.Rule.Slice.PartMut.{putMid, post-is}
 use Rattle.poly.specs.Lists.{below, without}
-use Rattle.poly.specs.Ranges.{Below, part, put}
+use Rattle.poly.specs.inner.Ranges.{Below, part, put}
 use Rattle.poly.proofs.Lists.{each-mem, mem-getD}
 use Rattle.poly.proofs.Below.{of-mem-below}
 
@@ -40,7 +40,8 @@ below-part n l a e h i = go (decLt i (e - a))
 -- ---- lists of numbers below n
 
 pub below-mem : (n : ℕ) (l : List ℕ) → 0 < n → ((x : ℕ) → Mem x l → x < n) → Below n l
-below-mem n l pos h i = elim (decLt i (length l)) [ yes k ↦ h (getD l i 0) (mem-getD l 0 i k) | no k ↦ rw (List·getD-eq-default l 0 {n = i} (omega arith)) pos ]
+below-mem n l pos h i =
+    elim (decLt i (length l)) [ yes k ↦ h (getD l i 0) (mem-getD l 0 i k) | no k ↦ rw (List·getD-eq-default l 0 {n = i} (omega arith)) pos ]
 
 pub mem-lt : (n : ℕ) (l : List ℕ) (x : ℕ) → Below n l → Mem x l → x < n
 mem-lt n l x h = each-mem (λ (v : ℕ). v < n) 0 l (λ i b. h i) x
@@ -112,5 +113,6 @@ module _ (l : List ℕ) (a e : ℕ) (ys : List ℕ) (ae : a ≤ e) (el : e ≤ l
       go (no h) (no i) = rw (put-high j (omega arith)) (hl j)
 
 -- of small numbers, as the borrow checker has it
-pub below-back : (n : ℕ) (l ys : List ℕ) (a e : ℕ) → a ≤ e → e ≤ length l → length ys ≡ e - a → Below n l → Below n ys → Below n (putMid a (e - a) l ys)
+pub below-back : (n : ℕ) (l ys : List ℕ) (a e : ℕ) → a ≤ e → e ≤ length l → length ys ≡ e - a → Below n l → Below n ys
+    → Below n (putMid a (e - a) l ys)
 below-back n l ys a e ae el yl hl hy i = rw (put-is l a e ys ae) (below-put l a e ys ae el yl n hl hy i)

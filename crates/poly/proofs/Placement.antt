@@ -12,9 +12,9 @@ use lib.Dec.{T, eqb}
 use lib.ListN.{length}
 use Rattle.field.specs.Field.{Field}
 use Rattle.field.proofs.FieldLaws.{times-zero, inverse-times, inverse-ne-zero}
-use Rattle.poly.specs.Linear.{entry}
-use Rattle.poly.specs.Rows.{divided, placed}
-use Rattle.poly.specs.Systems.{flat, rank, WellFormed, Equation, Joined}
+use Rattle.poly.specs.inner.Linear.{entry}
+use Rattle.poly.specs.inner.Rows.{divided, placed}
+use Rattle.poly.specs.inner.Systems.{flat, rank, WellFormed, Equation, Joined}
 use Rattle.poly.proofs.Linear.{scale-operation}
 use Rattle.poly.proofs.RowOperations.{divided-at, length-placed, placed-here, placed-other, below-placed}
 use Rattle.poly.proofs.Triangular.{Triangular}

@@ -12,8 +12,8 @@ use Rattle.field.specs.Field.{Field}
 use Rattle.field.proofs.Plus.{plus-self, eq-of-plus-zero}
 use Rattle.field.proofs.FieldLaws.{times-zero, zero-times, times-ne-zero}
 use Rattle.poly.specs.Lists.{Nodup, without}
-use Rattle.poly.specs.Ranges.{Below}
-use Rattle.poly.specs.Polynomials.{product, others}
+use Rattle.poly.specs.inner.Ranges.{Below}
+use Rattle.poly.specs.inner.Polynomials.{product, others}
 use Rattle.poly.proofs.Lists.{mem-without, nodup-without, without-left, without-right}
 use Rattle.poly.proofs.Parts.{below-without}
 
@@ -53,7 +53,9 @@ module _ (F : Field) where
   pub others-left : (a b : List ℕ) (t x : ℕ) → t < length a → others F (a ++ b) t x ≡ F .times (product F b x) (others F a t x)
   unfolding others
   others-left a b t x h =
-      ap (λ (l : List ℕ). product F l x) (without-left a b t h) ∙ product-append (without a t) b x ∙ F .times-comm (product F (without a t) x) (product F b x)
+      ap (λ (l : List ℕ). product F l x) (without-left a b t h)
+      ∙ product-append (without a t) b x
+      ∙ F .times-comm (product F (without a t) x) (product F b x)
 
   pub others-right : (a b : List ℕ) (t x : ℕ) → others F (a ++ b) (length a + t) x ≡ F .times (product F a x) (others F b t x)
   unfolding others

@@ -12,10 +12,10 @@ use Rattle.field.specs.Plus.{plus}
 use Rattle.field.specs.Field.{Field}
 use Rattle.field.proofs.Plus.{plus-zero, plus-self}
 use Rattle.field.proofs.FieldLaws.{times-zero, times-one-right}
-use Rattle.poly.specs.Ranges.{part}
-use Rattle.poly.specs.Linear.{entry, Holds}
-use Rattle.poly.specs.Rows.{added}
-use Rattle.poly.specs.Systems.{System, flat, WellFormed, Equation, Reducing}
+use Rattle.poly.specs.inner.Ranges.{part}
+use Rattle.poly.specs.inner.Linear.{entry, Holds}
+use Rattle.poly.specs.inner.Rows.{added}
+use Rattle.poly.specs.inner.Systems.{System, flat, WellFormed, Equation, Reducing}
 use Rattle.poly.proofs.Parts.{part-at}
 use Rattle.poly.proofs.Linear.{dot-cong, row-operation}
 use Rattle.poly.proofs.RowOperations.{length-added, added-at}

@@ -2,7 +2,7 @@
 -- Assumes nothing.
 use mathlib.Core.Path.{_≡_, refl, sym, ap, ap₂, _∙_}
 use mathlib.Core.List.{List, [], _∷_, List·Memᴰ as Mem, List·Memᴰ·head as head, List·Memᴰ·tail as tail, Memᴰ·cast}
-use Prim.Native.Nat.{ℕ, zero, suc, _+_, _≤_, _<_}
+use Prim.Native.Nat.{ℕ, zero, suc, _≤_, _<_}
 use native.Mathlib.Nat.{not-suc-le-zero}
 use native.Mathlib.Omega.{arith}
 use lib.ListN.{length}
@@ -11,8 +11,8 @@ use Rattle.field.specs.Field.{Field}
 use Rattle.field.proofs.Plus.{plus-assoc, plus-self, plus-zero, zero-plus, plus-cancel, plus-exchange, eq-of-plus-zero}
 use Rattle.field.proofs.FieldLaws.{zero-lt, times-zero, plus-times, times-left-comm, zero-of-times}
 use Rattle.poly.specs.Lists.{Nodup, below}
-use Rattle.poly.specs.Ranges.{Below}
-use Rattle.poly.specs.Polynomials.{value}
+use Rattle.poly.specs.inner.Ranges.{Below}
+use Rattle.poly.specs.inner.Polynomials.{value}
 use Rattle.poly.proofs.Below.{length-below, of-mem-below, nodup-below}
 use Rattle.poly.proofs.Parts.{mem-lt, below-below}
 use Rattle.poly.proofs.Values.{value-none, value-first, value-lt, value-plus, value-zeros}
@@ -34,14 +34,17 @@ module _ (F : Field) where
   constant : (f : ℕ → ℕ) (n x : ℕ) → f 0 < F .size → ((i : ℕ) → i < n → f (suc i) ≡ 0) → value F (suc n) f x ≡ f 0
   constant f n x h z =
       value-first F n f x h
-      ∙ ap (λ (v : ℕ). plus (F .times x v) (f 0)) (value-zeros F n (λ i. f (suc i)) x z) ∙ ap (λ (v : ℕ). plus v (f 0)) (times-zero F x) ∙ zero-plus (f 0)
+      ∙ ap (λ (v : ℕ). plus (F .times x v) (f 0)) (value-zeros F n (λ i. f (suc i)) x z)
+      ∙ ap (λ (v : ℕ). plus v (f 0)) (times-zero F x)
+      ∙ zero-plus (f 0)
 
   -- f x - f r is the product of x - r and the quotient
   quotient-value : (n : ℕ) (f : ℕ → ℕ) (r x : ℕ) → ((i : ℕ) → i ≤ n → f i < F .size)
       → plus (value F (suc n) f x) (value F (suc n) f r) ≡ F .times (plus x r) (value F n (quotient r n f) x)
   unfolding quotient
   quotient-value zero f r x h =
-      ap₂ plus (constant f 0 x (h 0 (omega arith)) (λ i k. absurd (not-suc-le-zero k))) (constant f 0 r (h 0 (omega arith)) (λ i k. absurd (not-suc-le-zero k)))
+      ap₂ plus (constant f 0 x (h 0 (omega arith)) (λ i k. absurd (not-suc-le-zero k)))
+      (constant f 0 r (h 0 (omega arith)) (λ i k. absurd (not-suc-le-zero k)))
       ∙ plus-self (f 0) ∙ sym (ap (F .times (plus x r)) (value-none F (quotient r 0 f) x) ∙ times-zero F (plus x r))
   quotient-value (suc n) f r x h =
       let u = value F (suc n) (λ k. f (suc k)) x in
@@ -54,7 +57,9 @@ module _ (F : Field) where
       ap (F .times (plus x r)) (value-first F n (quotient r (suc n) f) x (value-lt F (suc n) (λ k. f (suc k)) r))
       ∙ F .times-plus (plus x r) (F .times x w) v
       ∙ ap₂ plus
-      (times-left-comm F (plus x r) x w ∙ ap (F .times x) (sym (quotient-value n (λ k. f (suc k)) r x (λ i b. h (suc i) (omega arith)))) ∙ F .times-plus x u v)
+      (times-left-comm F (plus x r) x w
+      ∙ ap (F .times x) (sym (quotient-value n (λ k. f (suc k)) r x (λ i b. h (suc i) (omega arith))))
+      ∙ F .times-plus x u v)
       (plus-times F x r v)
       ∙ plus-assoc (F .times x u) (F .times x v) (plus (F .times x v) (F .times r v))
       ∙ ap (plus (F .times x u)) (plus-cancel (F .times x v) (F .times r v)))
@@ -64,15 +69,18 @@ module _ (F : Field) where
   unfolding quotient
   unquotient r zero f h z i l = absurd (omega arith)
   unquotient r (suc n) f h z zero l =
-      sym (constant (λ k. f (suc k)) n r (h 1 (omega arith)) (unquotient r n (λ k. f (suc k)) (λ i b. h (suc i) (omega arith)) (λ i b. z (suc i) (omega arith))))
+      sym (constant (λ k. f (suc k)) n r (h 1 (omega arith))
+      (unquotient r n (λ k. f (suc k)) (λ i b. h (suc i) (omega arith)) (λ i b. z (suc i) (omega arith))))
       ∙ z 0 l
-  unquotient r (suc n) f h z (suc i) l = unquotient r n (λ k. f (suc k)) (λ i b. h (suc i) (omega arith)) (λ i b. z (suc i) (omega arith)) i (omega arith)
+  unquotient r (suc n) f h z (suc i) l =
+      unquotient r n (λ k. f (suc k)) (λ i b. h (suc i) (omega arith)) (λ i b. z (suc i) (omega arith)) i (omega arith)
 
   -- the other roots of f are roots of the quotient
   quotient-root : (r n : ℕ) (f : ℕ → ℕ) (x : ℕ) → ((i : ℕ) → i ≤ n → f i < F .size) → r < F .size → x < F .size → (x ≡ r → ⊥)
       → value F (suc n) f x ≡ 0 → value F (suc n) f r ≡ 0 → value F n (quotient r n f) x ≡ 0
   quotient-root r n f x h hr hx d ex er =
-      zero-of-times F (plus x r) (value F n (quotient r n f) x) (F .plus-lt x r hx hr) (λ e. d (eq-of-plus-zero x r e)) (value-lt F n (quotient r n f) x)
+      zero-of-times F (plus x r) (value F n (quotient r n f) x) (F .plus-lt x r hx hr) (λ e. d (eq-of-plus-zero x r e))
+      (value-lt F n (quotient r n f) x)
       (sym (quotient-value n f r x h) ∙ ap₂ plus ex er ∙ plus-self 0)
 
   pub root-bound : (roots : List ℕ) (n : ℕ) (f : ℕ → ℕ) → Below (F .size) roots → Nodup roots → ((i : ℕ) → i < n → f i < F .size) → n ≤ length roots
@@ -82,7 +90,8 @@ module _ (F : Field) where
   root-bound (r ∷ roots) (suc n) f b d h l z = each
       (unquotient r n f small
       (root-bound roots n (quotient r n f) (λ i. b (suc i)) (d .1) (λ i k. quotient-lt r n f i) (omega arith)
-      (λ x m. quotient-root r n f x small (b 0) (mem-lt (F .size) roots x (λ i. b (suc i)) m) (λ e. d .0 (Memᴰ·cast (sym e) m)) (z x (tail m)) (z r (head refl)))))
+      (λ x m. quotient-root r n f x small (b 0) (mem-lt (F .size) roots x (λ i. b (suc i)) m)
+      (λ e. d .0 (Memᴰ·cast (sym e) m)) (z x (tail m)) (z r (head refl)))))
     where
       small : (i : ℕ) → i ≤ n → f i < F .size
       small i k = h i (omega arith)

@@ -12,9 +12,9 @@ use Rattle.field.specs.Plus.{plus}
 use Rattle.field.specs.Field.{Field}
 use Rattle.field.proofs.Plus.{plus-zero}
 use Rattle.field.proofs.FieldLaws.{times-zero}
-use Rattle.poly.specs.Ranges.{Below, part}
-use Rattle.poly.specs.Linear.{entry}
-use Rattle.poly.specs.Rows.{added, scaled, divided, stored, placed}
+use Rattle.poly.specs.inner.Ranges.{Below, part}
+use Rattle.poly.specs.inner.Linear.{entry}
+use Rattle.poly.specs.inner.Rows.{added, scaled, divided, stored, placed}
 use Rattle.poly.proofs.Writes.{length-writes, writes-in, writes-out, below-writes}
 use Rattle.poly.proofs.Parts.{row-before, length-part, below-part, length-put, put-low, put-in, put-high, below-put}
 

@@ -14,8 +14,8 @@ use Rattle.field.specs.Tests.{every}
 use Rattle.field.proofs.Search.{of-every, to-every}
 use Rattle.poly.specs.Lists.{oneIf, count, below}
 use Rattle.poly.specs.Messages.{Vector, snoc, all}
-use Rattle.poly.specs.Linear.{entry, dot}
-use Rattle.poly.specs.Systems.{System, Satisfies, rank, Full, Solves}
+use Rattle.poly.specs.inner.Linear.{entry, dot}
+use Rattle.poly.specs.inner.Systems.{System, Satisfies, rank, Full, Solves}
 use Rattle.poly.proofs.Bools.{implies, implied, same-test}
 use Rattle.poly.proofs.Lists.{count-map, count-flatMap, count-le, count-every, count-none, count-one, count-cong, every-of-count, two-of-count}
 use Rattle.poly.proofs.Below.{length-below, mem-below, of-mem-below, nodup-below}
@@ -35,7 +35,10 @@ module _ (F : Field) (S : System) where
   pub of-satisfies : (k : ℕ) (v : ℕ → ℕ) → T (satisfies F k S v) → Satisfies F k S v
   unfolding satisfies
   of-satisfies k v t =
-      record { holds = λ p l h. eqb→eq _ _ (implied (S .present p) _ (of-every k (λ p. not (S .present p) || eqb (dot F k (S .row p) v) (S .rhs p)) t p l) h) }
+      record {
+        holds = λ p l h. eqb→eq _ _
+            (implied (S .present p) _ (of-every k (λ p. not (S .present p) || eqb (dot F k (S .row p) v) (S .rhs p)) t p l) h);
+      }
 
   pub to-satisfies : (k : ℕ) (v : ℕ → ℕ) → Satisfies F k S v → T (satisfies F k S v)
   unfolding satisfies

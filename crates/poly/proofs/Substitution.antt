@@ -11,9 +11,9 @@ use lib.ListN.{length, set, length-set}
 use lib.Seq.{getD-set-same, getD-set-other}
 use Rattle.field.specs.Plus.{plus}
 use Rattle.field.specs.Field.{Field}
-use Rattle.poly.specs.Ranges.{part}
-use Rattle.poly.specs.Linear.{entry, dot}
-use Rattle.poly.specs.Systems.{System, flat, Satisfies, Full, WellFormed, Solves}
+use Rattle.poly.specs.inner.Ranges.{part}
+use Rattle.poly.specs.inner.Linear.{entry, dot}
+use Rattle.poly.specs.inner.Systems.{System, flat, Satisfies, Full, WellFormed, Solves}
 use Rattle.poly.proofs.Parts.{part-at}
 use Rattle.poly.proofs.Linear.{dot-lt, dot-cong}
 use Rattle.poly.proofs.Triangular.{Follows, next, follows-none, follows-suc, follows-local, next-local, satisfies-follows}
@@ -51,7 +51,9 @@ module _ (F : Field) (stride k : ℕ) (work : List ℕ) (wf : WellFormed F strid
 
     gives : x ≡ next F S p (entry message)
     unfolding next
-    gives = is ∙ ap (plus (S .rhs p)) (dot-cong F p _ _ (entry message) (λ j l. part-at work (p * stride) (p * stride + stride) j (omega (arith, wf .room))))
+    gives =
+        is
+        ∙ ap (plus (S .rhs p)) (dot-cong F p _ _ (entry message) (λ j l. part-at work (p * stride) (p * stride + stride) j (omega (arith, wf .room))))
 
     pub solving-turn : Solving F k S message₀ (set message p x) (p + 1)
     solving-turn =
@@ -71,7 +73,8 @@ module _ (F : Field) (stride k : ℕ) (work : List ℕ) (wf : WellFormed F strid
 
   pub solved : Full k S → (message₀ message : List ℕ) → Solving F k S message₀ message k → Solves F k S message
   solved every message₀ message D =
-      let solution : Satisfies F k S (entry message) = satisfies-follows F S k (triangular F stride k work wf) (entry message) (D .symbols) .1 (D .follows) in
+      let solution : Satisfies F k S (entry message) =
+      satisfies-follows F S k (triangular F stride k work wf) (entry message) (D .symbols) .1 (D .follows) in
       record {
         symbols = D .symbols;
         solution = solution;

@@ -10,8 +10,8 @@ use lib.Dec.{T}
 use Rattle.field.specs.Plus.{plus}
 use Rattle.field.specs.Field.{Field}
 use Rattle.field.proofs.Plus.{plus-comm, plus-cancel, plus-solve}
-use Rattle.poly.specs.Linear.{dot}
-use Rattle.poly.specs.Systems.{System, Satisfies, Full}
+use Rattle.poly.specs.inner.Linear.{dot}
+use Rattle.poly.specs.inner.Systems.{System, Satisfies, Full}
 use Rattle.poly.proofs.Linear.{dot-suc, dot-lt, dot-local, dot-extend}
 
 -- a row that is present has 1 at its own unknown, 0 at each later one, and a symbol on its right-hand side
@@ -64,7 +64,8 @@ module _ (F : Field) (S : System) where
   pub follows-unique : (n : ℕ) (v w : ℕ → ℕ) → Full n S → Follows F S n v → Follows F S n w → (j : ℕ) → j < n → v j ≡ w j
   follows-unique zero v w full hv hw j l = absurd (omega arith)
   follows-unique (suc n) v w full hv hw j l =
-      go (follows-unique n v w (λ p a. full p (omega arith)) (follows-fewer n (suc n) v (omega arith) hv) (follows-fewer n (suc n) w (omega arith) hw))
+      go
+      (follows-unique n v w (λ p a. full p (omega arith)) (follows-fewer n (suc n) v (omega arith) hv) (follows-fewer n (suc n) w (omega arith) hw))
       (eq-or-lt-of-le (le-of-suc-le-suc l))
     where
       go : ((j : ℕ) → j < n → v j ≡ w j) → (j ≡ n) ⊎ (j < n) → v j ≡ w j

@@ -11,8 +11,9 @@ use Rattle.field.specs.Sum.{sum}
 use Rattle.field.proofs.Plus.{plus-assoc, plus-comm, plus-zero}
 use Rattle.field.proofs.FieldLaws.{zero-lt, zero-times, plus-times, times-left-comm, times-one-right}
 use Rattle.field.proofs.Powers.{power-zero, power-suc, power-add}
-use Rattle.field.proofs.Sums.{sum-none, sum-suc, sum-cong, sum-zeros, sum-plus, sum-swap, sum-first, sum-add, sum-extend, sum-scale, sum-scale-right, sum-lt}
-use Rattle.poly.specs.Polynomials.{value, linear}
+use Rattle.field.proofs.Sums.{sum-none, sum-suc, sum-cong, sum-zeros, sum-plus, sum-swap}
+use Rattle.field.proofs.Sums.{sum-first, sum-add, sum-extend, sum-scale, sum-scale-right, sum-lt}
+use Rattle.poly.specs.inner.Polynomials.{value, linear}
 
 -- x times f
 abbrev pub shift : (ℕ → ℕ) → ℕ → ℕ
@@ -80,7 +81,8 @@ module _ (F : Field) where
   pub value-swap : (m n : ℕ) (f : ℕ → ℕ → ℕ) (x y : ℕ) → value F m (λ i. value F n (λ j. f i j) y) x ≡ value F n (λ j. value F m (λ i. f i j) x) y
   unfolding value
   value-swap m n f x y =
-      sum-cong m _ (λ i. sum n (λ j. F .times (F .times (f i j) (power F y j)) (power F x i))) (λ i l. sym (sum-scale-right F n (power F x i) (λ j. F .times (f i j) (power F y j))))
+      sum-cong m _ (λ i. sum n (λ j. F .times (F .times (f i j) (power F y j)) (power F x i)))
+      (λ i l. sym (sum-scale-right F n (power F x i) (λ j. F .times (f i j) (power F y j))))
       ∙ sum-swap m n (λ i j. F .times (F .times (f i j) (power F y j)) (power F x i))
       ∙ sum-cong n _ (λ j. F .times (sum m (λ i. F .times (f i j) (power F x i))) (power F y j))
       (λ j l.

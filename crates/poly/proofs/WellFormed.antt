@@ -11,8 +11,8 @@ use lib.ListN.{length, replicate, length-replicate}
 use Rattle.field.specs.Field.{Field}
 use Rattle.field.proofs.FieldLaws.{zero-lt}
 use Rattle.poly.specs.Lists.{below}
-use Rattle.poly.specs.Linear.{entry}
-use Rattle.poly.specs.Systems.{flat, Satisfies, rank, WellFormed}
+use Rattle.poly.specs.inner.Linear.{entry}
+use Rattle.poly.specs.inner.Systems.{flat, Satisfies, rank, WellFormed}
 use Rattle.poly.proofs.Lists.{count-none}
 use Rattle.poly.proofs.Parts.{row-before}
 use Rattle.poly.proofs.Entries.{getD-zeros}

@@ -1,16 +1,16 @@
 -- A loop that writes a range anew: the length, what stands where it wrote and where it did not, and what a turn does.
 -- Assumes nothing.
 use mathlib.Core.Path.{_≡_, refl, sym, ap, _∙_}
-use mathlib.Core.List.{List, [], _∷_, map, map-append}
+use mathlib.Core.List.{List, map}
 use mathlib.Core.Logic.{⊎-elim}
 use Prim.Native.Nat.{ℕ, zero, suc, _+_, _≤_, _<_}
 use native.Mathlib.Nat.{le-antisymm, eq-or-lt-of-le, not-suc-le-zero, le-of-suc-le-suc}
 use native.Mathlib.Numerals.{add-one}
 use native.Mathlib.Decide.{decLt}
 use native.Mathlib.Omega.{arith}
-use lib.ListN.{length, getD, take, set, length-set, length-map, replicate, length-replicate, getD-replicate}
-use lib.Seq.{ext-getD, getD-set-same, getD-set-other, take-suc, take-suc-set, take-all}
-use Rattle.poly.specs.Ranges.{Below, writes}
+use lib.ListN.{length, getD, set, length-set, length-map, replicate, length-replicate, getD-replicate}
+use lib.Seq.{ext-getD, getD-set-same, getD-set-other}
+use Rattle.poly.specs.inner.Ranges.{Below, writes}
 use Rattle.poly.proofs.Lists.{getD-map}
 
 module _ (l : List ℕ) (f : ℕ → ℕ) where
@@ -55,14 +55,6 @@ module _ (l : List ℕ) (f : ℕ → ℕ) where
       go (yes i) = rw (writes-in n j i k) (g j i)
       go (no p) = rw (writes-out n j (omega arith)) (h j)
 
--- the same number at every place
-pub writes-same : (l : List ℕ) (c : ℕ) → writes l (length l) (λ _. c) ≡ replicate (length l) c
-writes-same l c =
-    ext-getD 0 (writes l (length l) (λ _. c)) (replicate (length l) c) (length-writes l (λ _. c) (length l) ∙ sym (length-replicate (length l) c))
-    (λ t b.
-    let k : t < length l = omega (arith, length-writes l (λ _. c) (length l)) in
-    writes-in l (λ _. c) (length l) t k (omega arith) ∙ sym (getD-replicate (length l) t c 0 k))
-
 -- each entry is given the value of f at it
 pub writes-map : (f : ℕ → ℕ) (l : List ℕ) → writes l (length l) (λ j. f (getD l j 0)) ≡ map f l
 writes-map f l =
@@ -71,12 +63,3 @@ writes-map f l =
     (λ t b.
     let k : t < length l = omega (arith, length-writes l g (length l)) in
     writes-in l g (length l) t k (omega arith) ∙ sym (getD-map f l 0 0 t k))
-
--- a list that is filled from the front with the values of f at the entries of another
-module _ (f : ℕ → ℕ) (places out : List ℕ) (t : ℕ) (same : length out ≡ length places) (done : take t out ≡ map f (take t places)) where
-  pub map-turn : (v : ℕ) → t < length places → v ≡ f (getD places t 0) → take (t + 1) (set out t v) ≡ map f (take (t + 1) places)
-  map-turn v l e =
-      rw (add-one t, take-suc-set out t v (omega arith), take-suc places t 0 l, done, e) (sym (map-append f (take t places) (getD places t 0 ∷ [])))
-
-  pub map-end : length places ≤ t → out ≡ map f places
-  map-end l = sym (take-all t out (omega arith)) ∙ done ∙ ap (map f) (take-all t places l)

@@ -1,10 +1,4 @@
 pub mod Lists
 pub mod Messages
-pub mod Ranges
-pub mod Polynomials
-pub mod Linear
-pub mod Rows
-pub mod Systems
-pub mod Interpolation
 pub mod Sets
-pub mod PowerSums
+pub mod inner

@@ -1,6 +1,7 @@
 // Lists of symbols: polynomials and linear systems over the field of a curve's number q. Nothing here knows of the curve.
 pub mod interpolation;
+pub mod lanes;
 pub mod polynomial;
-pub mod power_sums;
+pub mod root_interpolation;
 pub mod rows;
 pub mod system;

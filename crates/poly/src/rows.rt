@@ -1,10 +1,10 @@
 // Rows of symbols.
 ghost use mathlib.Core.Path.{_≡_};
-ghost use Prim.Native.Nat.{ℕ, _*_, _≤_, _<_};
-ghost use lib.ListN.{length, replicate};
+ghost use Prim.Native.Nat.{ℕ, _≤_, _<_};
+ghost use lib.ListN.{length};
 ghost use Rattle.field.proofs.Fields.{fieldOf};
-ghost use Rattle.poly.specs.Linear.{entry};
-ghost use Rattle.poly.specs.Rows.{added, scaled, stored, Strewn};
+ghost use Rattle.poly.specs.inner.Linear.{entry};
+ghost use Rattle.poly.specs.inner.Rows.{added, scaled, stored};
 
 // dst[j] += c * src[j] for each j below n.
 pub fn add_scaled(q: u8, c: u8, n: usize, src: &[u8], dst: &mut [u8])
@@ -41,30 +41,5 @@ pub fn copy(n: usize, src: &[u8], dst: &mut [u8])
     while j < n {
         dst[j] = src[j];
         j += 1;
-    }
-}
-
-// Every element becomes c.
-pub fn fill(c: u8, dst: &mut [u8])
-    ensures { λ _. ⌜ now (dst .exit) ≡ replicate (length (now (dst .entry))) c ⌝ }
-{
-    let mut t = 0;
-    while t < dst.len() {
-        dst[t] = c;
-        t += 1;
-    }
-}
-
-// dst[stride * t + start] = src[t] for each t.
-pub fn spread(start: usize, stride: usize, src: &[u8], dst: &mut [u8])
-    requires { ⌜ (start < stride) × (stride * length (now src) ≤ length (now dst)) ⌝ }
-    ensures { λ _. ⌜ Strewn start stride (now (src .entry)) (now (dst .entry)) (now (dst .exit)) ⌝ }
-{
-    let mut t = 0;
-    let mut at = start;
-    while t < src.len() {
-        dst[at] = src[t];
-        at += stride;
-        t += 1;
     }
 }

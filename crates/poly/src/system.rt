@@ -4,10 +4,10 @@ ghost use Prim.Native.Nat.{ℕ, _+_, _≤_, _<_};
 ghost use lib.ListN.{length};
 ghost use Rattle.field.specs.Plus.{plus};
 ghost use Rattle.field.proofs.Fields.{fieldOf};
-ghost use Rattle.poly.specs.Linear.{entry, dot};
-ghost use Rattle.poly.specs.Rows.{divided, placed};
+ghost use Rattle.poly.specs.inner.Linear.{entry, dot};
+ghost use Rattle.poly.specs.inner.Rows.{divided, placed};
 use crate::rows;
-ghost use Rattle.poly.specs.Systems.{flat, Full, WellFormed, Equation, Reduced, Brought, Solves};
+ghost use Rattle.poly.specs.inner.Systems.{flat, Full, WellFormed, Equation, Reduced, Brought, Solves};
 
 // What bringing in an equation did: a row more; nothing, for it held already; nothing, for it never holds.
 pub enum Effect {

@@ -12,9 +12,9 @@ use Rattle.field.specs.declared.outcome.Outcome.the-variants.{Done, BadRoom}
 use Rattle.code.specs.Terms.{size}
 use Rattle.code.specs.Checks.{badValue, firstBad, sliceChecks}
 use Rattle.code.specs.Answers.{answered}
-use Rattle.code.specs.Recovered.{told, recoverChecks, recovered}
+use Rattle.code.specs.Recovered.{answerOf, recoverChecks, recovered}
 use Rattle.code.proofs.Checks.{order-passed, slices-passed, slices-room}
-use Rattle.code.proofs.Recoveries.{readingOf, recovered-refused, recovered-told}
+use Rattle.code.proofs.Recoveries.{readingOf, recovered-refused, recovered-answer}
 use Rattle.session.specs.declared.Session.{Session}
 use Rattle.session.specs.Asked.{asked}
 use Rattle.session.specs.ReferenceModel.{Model}
@@ -42,10 +42,10 @@ module _ (q m : ℕ) (curve : IsCurve q) (order : m < q * q * q)
   checks : recoverChecks q m (map receivedValue model) slice ≡ slices
   checks = order-passed q m slices curve order
 
-  pub asks-told : length slice ≡ size q m → asked now slice ≡ told (readingOf q m (map receivedValue model)) slice
-  asks-told e =
+  pub asks-answer : length slice ≡ size q m → asked now slice ≡ answerOf (readingOf q m (map receivedValue model)) slice
+  asks-answer e =
       is-recovered
-      ∙ recovered-told q m (map receivedValue model) slice
+      ∙ recovered-answer q m (map receivedValue model) slice
       (checks
       ∙ slices-passed true (q * q) (q * q * q) (map receivedValue model) (size q m) (length slice) Done long (q * q * q) searched (omega arith) e)
 

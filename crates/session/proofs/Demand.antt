@@ -13,8 +13,8 @@ use Rattle.field.specs.declared.outcome.Outcome.the-variants.{Done, BadRoom, No
 use Rattle.field.proofs.Outcomes.{says}
 use Rattle.code.specs.Terms.{size}
 use Rattle.code.specs.Answers.{answered}
-use Rattle.code.specs.Recovered.{Reading, told}
-use Rattle.code.proofs.Recoveries.{readingOf, told-nothing, told-message, told-several}
+use Rattle.code.specs.Recovered.{Reading, answerOf}
+use Rattle.code.proofs.Recoveries.{readingOf, answer-nothing, answer-message, answer-several}
 use Rattle.session.specs.declared.Session.{Session}
 use Rattle.session.specs.Opened.{opened}
 use Rattle.session.specs.Arrived.{arrived}
@@ -25,7 +25,7 @@ use Rattle.session.specs.Replayed.{decoded, replayed}
 use Rattle.session.proofs.Replays.{replayed-asked}
 use Rattle.session.proofs.Steps.{receivedValue, Match, opened-curve, match-opened, step}
 use Rattle.session.proofs.ModelReadings.{none-fits, one-fits, several-fit, never-two}
-use Rattle.session.proofs.Askings.{asks-told, asks-room}
+use Rattle.session.proofs.Askings.{asks-answer, asks-room}
 
 -- after every list of events the session matches the model
 match-from : (q m : ℕ) → IsCurve q → m < q * q * q → (session : Session) (model : Model) → Match q m session model → (events : List Event)
@@ -59,8 +59,8 @@ module _ (q m : ℕ) (accepted : Says (opened q m .outcome) 0 0) where
     abbrev found : Reading
     found = readingOf q m (map receivedValue model)
 
-    asks : (slice : List ℕ) → length slice ≡ size q m → asked (sessionAfter q m events) slice ≡ told found slice
-    asks slice e = let h = match-after events in rw (h .is) (asks-told q m curve order (h .places) (h .rounds) model (h .represents) slice e)
+    asks : (slice : List ℕ) → length slice ≡ size q m → asked (sessionAfter q m events) slice ≡ answerOf found slice
+    asks slice e = let h = match-after events in rw (h .is) (asks-answer q m curve order (h .places) (h .rounds) model (h .represents) slice e)
 
     short : (slice : List ℕ) → (length slice ≡ size q m → ⊥) → asked (sessionAfter q m events) slice ≡ answered BadRoom slice
     short slice n = let h = match-after events in rw (h .is) (asks-room q m curve order (h .places) (h .rounds) model (h .represents) slice n)
@@ -73,22 +73,22 @@ module _ (q m : ℕ) (accepted : Says (opened q m .outcome) 0 0) where
               both (says (arrived (sessionAfter q m before) p s r .outcome) Done)
               (step q m curve order (sessionAfter q m before) (modelAfter q before) (match-after before) p s r .answered);
           gives = λ slice e v.
-              let w = both (told-message found slice v) (one-fits q m curve model (h .len) (h .small) v) in
-              let is = says (told found slice .outcome) Done in
+              let w = both (answer-message found slice v) (one-fits q m curve model (h .len) (h .small) v) in
+              let is = says (answerOf found slice .outcome) Done in
               rw (asks slice e) (λ a. w .0 (is .0 (a .0), a .1), λ a. let b = w .1 a in (is .1 (b .0), b .1));
           says-none = λ slice e.
               rw (asks slice e)
-              (both (says (told found slice .outcome) NoMessage)
-              (both (told-nothing found slice) (none-fits q m curve model (h .len) (h .small))));
+              (both (says (answerOf found slice .outcome) NoMessage)
+              (both (answer-nothing found slice) (none-fits q m curve model (h .len) (h .small))));
           says-several = λ slice e r.
               rw (asks slice e)
-              (both (says (told found slice .outcome) (Several r))
-              (both (told-several found slice r) (several-fit q m curve model (h .len) (h .small) r)));
+              (both (says (answerOf found slice .outcome) (Several r))
+              (both (answer-several found slice r) (several-fit q m curve model (h .len) (h .small) r)));
           sure = λ enough slice r said. elim (ℕ-discrete (length slice) (size q m)) [
             | yes e ↦
                 never-two q m curve model (h .len) (h .small) enough
                 (several-fit q m curve model (h .len) (h .small) r .0
-                (told-several found slice r .0 (says (told found slice .outcome) (Several r) .0 (rw (asks slice e) at said))) .0)
+                (answer-several found slice r .0 (says (answerOf found slice .outcome) (Several r) .0 (rw (asks slice e) at said))) .0)
             | no d ↦ let a = rw (short slice d) at said in omega arith
           ];
         }

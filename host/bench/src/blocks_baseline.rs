@@ -6,34 +6,34 @@ use std::io::{self, Read, Write};
 use crate::baseline::{Baseline, DONE};
 use crate::{K, N};
 
-const PAGE: usize = 64 * 1024;
+const BUFFER_LENGTH: usize = 64 * 1024;
 const DIGITS: &[u8; 16] = b"0123456789abcdef";
 
 /// One line for each record, and one for a shorter last part.
 pub fn run(mut input: impl Read, mut output: impl Write) -> io::Result<()> {
     let baseline = Baseline::new();
-    let mut page = vec![0; PAGE];
-    let mut lines = Vec::with_capacity(PAGE);
+    let mut buffer = vec![0; BUFFER_LENGTH];
+    let mut lines = Vec::with_capacity(BUFFER_LENGTH);
     let mut number = 0;
     loop {
-        let filled = fill(&mut input, &mut page)?;
+        let filled = fill(&mut input, &mut buffer)?;
         lines.clear();
-        for part in page[..filled].chunks(N) {
+        for part in buffer[..filled].chunks(N) {
             write_line(&baseline, number, part, &mut lines)?;
             number += 1;
         }
         output.write_all(&lines)?;
-        if filled < PAGE {
+        if filled < BUFFER_LENGTH {
             return output.flush();
         }
     }
 }
 
-/// Reads until the page is full or the input ends; gives what was read.
-fn fill(input: &mut impl Read, page: &mut [u8]) -> io::Result<usize> {
+/// Reads until the buffer is full or the input ends; gives the length read.
+fn fill(input: &mut impl Read, buffer: &mut [u8]) -> io::Result<usize> {
     let mut filled = 0;
-    while filled < page.len() {
-        match input.read(&mut page[filled..])? {
+    while filled < buffer.len() {
+        match input.read(&mut buffer[filled..])? {
             0 => break,
             count => filled += count,
         }
@@ -68,7 +68,7 @@ mod tests {
 
     #[test]
     fn the_lines_are_those_of_the_reference() {
-        // More than a page, so that numbers go on from one to the next.
+        // More than a buffer, so that numbers go on from one to the next.
         let input = records(1100);
         let mut lines = Vec::new();
         run(input.as_slice(), &mut lines).unwrap();

@@ -127,10 +127,6 @@ mod tests {
 
     const BAD_CURVES: [u8; 8] = [0, 1, 3, 5, 6, 8, 16, 255];
 
-    fn every_shape() -> impl Iterator<Item = Shape> {
-        Curve::BOTH.into_iter().flat_map(Shape::every_order)
-    }
-
     /// The result of a call, or its refusal after a look that nothing was
     /// written.
     fn run(call: Call, q: u8, m: u8, input: &[u8], length: usize) -> Result<Vec<u8>, Outcome> {
@@ -203,7 +199,7 @@ mod tests {
 
     #[test]
     fn nothing_arrived_at_every_order() {
-        for shape in every_shape() {
+        for shape in Shape::every() {
             let expected = Outcome::several_messages_fit(shape.k as u8);
             let nothing = vec![MISSING; shape.n];
             assert_eq!(decode(recover, shape, &nothing), Err(expected));
@@ -213,7 +209,7 @@ mod tests {
     /// Each call starts with every fault and loses them one by one.
     #[test]
     fn refusals_come_in_the_order_of_the_checks() {
-        for shape in every_shape() {
+        for shape in Shape::every() {
             let Shape { n, k, .. } = shape;
             for (call, input, output) in [(encode as Call, k, n), (unencode, n, k), (recover, n, k)]
             {
@@ -267,7 +263,7 @@ mod tests {
 
     #[test]
     fn every_value_of_q_or_more_is_bad_and_255_only_outside_broken_words() {
-        for shape in every_shape().filter(|shape| shape.m % 9 == 1) {
+        for shape in Shape::every().filter(|shape| shape.m % 9 == 1) {
             for value in shape.field_size..=255 {
                 let mut word = vec![0; shape.n];
                 word[shape.n - 1] = value;
@@ -301,7 +297,7 @@ mod tests {
     #[test]
     fn words_give_their_message_back_at_every_order() {
         let mut generator = Generator::with_seed(21);
-        for shape in every_shape() {
+        for shape in Shape::every() {
             let message = sample::message(&mut generator, shape);
             let word = shape.word_of(&message);
             assert_eq!(decode(unencode, shape, &word), Ok(message.clone()));
@@ -312,7 +308,7 @@ mod tests {
     #[test]
     fn unencoding_is_recovery_of_a_whole_word_and_never_answers_10() {
         let mut generator = Generator::with_seed(22);
-        for shape in every_shape() {
+        for shape in Shape::every() {
             let word = sample::codeword(&mut generator, shape);
             let damaged = sample::damaged(&mut generator, shape, &word);
             let arbitrary = sample::symbols(&mut generator, shape, shape.n);
@@ -333,11 +329,7 @@ mod tests {
         for shape in Shape::every_order(Curve::Q_IS_2).take(3) {
             let words = sample::all_messages_with_words(shape);
             for number in 0..5u32.pow(8) {
-                let digit = |place: u32| match number / 5u32.pow(place) % 5 {
-                    4 => MISSING,
-                    symbol => symbol as u8,
-                };
-                let broken: Vec<u8> = (0..8).map(digit).collect();
+                let broken = sample::numbered_word(number, 5);
                 agrees_with_trial(shape, &words, &broken);
             }
         }
@@ -380,9 +372,11 @@ mod tests {
         }
     }
 
+    // From here on: the faults of document 01's "Traps for the coder".
+
     #[test]
-    fn trap_the_constant_coefficient_counts() {
-        for shape in every_shape() {
+    fn the_constant_coefficient_counts() {
+        for shape in Shape::every() {
             let mut message = vec![0; shape.k];
             message[0] = shape.field_size - 1;
             let constant_word = vec![shape.field_size - 1; shape.n];
@@ -393,11 +387,11 @@ mod tests {
     /// At q = 2 every word of 8 symbols is tried: just Q to the power k of
     /// them have a message.
     #[test]
-    fn trap_not_every_word_has_a_message() {
+    fn not_every_word_has_a_message() {
         let shape = Shape::of(Curve::Q_IS_2, 7);
         let mut accepted = 0;
         for number in 0..4u32.pow(8) {
-            let word: Vec<u8> = (0..8).map(|p| (number >> (2 * p) & 3) as u8).collect();
+            let word = sample::numbered_word(number, 4);
             match decode(unencode, shape, &word) {
                 Ok(message) => {
                     assert_eq!(shape.word_of(&message), word);
@@ -410,9 +404,9 @@ mod tests {
     }
 
     #[test]
-    fn trap_m_plus_1_symbols_are_always_enough() {
+    fn m_plus_1_symbols_are_always_enough() {
         let mut generator = Generator::with_seed(24);
-        for shape in every_shape() {
+        for shape in Shape::every() {
             for _ in 0..4 {
                 let message = sample::message(&mut generator, shape);
                 let word = shape.word_of(&message);
@@ -425,7 +419,7 @@ mod tests {
 
     /// At q = 2 every choice of known places is tried.
     #[test]
-    fn trap_m_plus_1_symbols_are_enough_wherever_they_are() {
+    fn m_plus_1_symbols_are_enough_wherever_they_are() {
         let mut generator = Generator::with_seed(25);
         for shape in Shape::every_order(Curve::Q_IS_2) {
             for known in 0..=255u8 {
@@ -445,9 +439,9 @@ mod tests {
     }
 
     #[test]
-    fn trap_k_symbols_need_not_be_enough() {
+    fn k_symbols_need_not_be_enough() {
         let mut generator = Generator::with_seed(26);
-        for shape in every_shape().filter(|shape| shape.m >= shape.q()) {
+        for shape in Shape::every().filter(|shape| shape.m >= shape.q()) {
             let word = sample::codeword(&mut generator, shape);
             let columns = usize::from(shape.m / shape.q());
             let broken = sample::with_known_columns(&mut generator, shape, &word, columns);
@@ -459,9 +453,9 @@ mod tests {
 
     /// A divisor that goes wrong over some columns in use would show here.
     #[test]
-    fn trap_any_set_of_whole_columns_gives_the_message() {
+    fn any_set_of_whole_columns_gives_the_message() {
         let mut generator = Generator::with_seed(27);
-        for shape in every_shape() {
+        for shape in Shape::every() {
             let enough = usize::from(shape.m / shape.q()) + 1;
             for columns in enough..=usize::from(shape.field_size) {
                 let message = sample::message(&mut generator, shape);

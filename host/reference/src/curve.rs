@@ -61,6 +61,11 @@ impl Curve {
         self.point_count
     }
 
+    /// The orders that are accepted: 0 to n - 1.
+    pub fn orders(self) -> impl Iterator<Item = u8> {
+        (0..=u8::MAX).take(self.point_count)
+    }
+
     /// g, the genus.
     pub fn genus(self) -> usize {
         self.genus
@@ -105,10 +110,6 @@ mod tests {
 
     fn points_as_pairs(curve: Curve) -> Vec<(u8, u8)> {
         curve.points().iter().map(|p| (p.x, p.y)).collect()
-    }
-
-    fn orders(curve: Curve) -> impl Iterator<Item = u8> {
-        (0..=u8::MAX).take(curve.point_count())
     }
 
     #[test]
@@ -192,7 +193,7 @@ mod tests {
     #[test]
     fn weights_of_different_terms_differ_and_ascend() {
         for curve in Curve::BOTH {
-            for m in orders(curve) {
+            for m in curve.orders() {
                 let terms = curve.terms(m);
                 let weights: Vec<usize> = terms.iter().map(|&t| curve.weight(t)).collect();
                 assert!(weights.windows(2).all(|pair| pair[0] < pair[1]));
@@ -206,7 +207,7 @@ mod tests {
     fn from_2g_minus_1_on_there_are_m_plus_1_minus_g_terms() {
         for curve in Curve::BOTH {
             let g = curve.genus();
-            for m in orders(curve).filter(|&m| usize::from(m) + 1 >= 2 * g) {
+            for m in curve.orders().filter(|&m| usize::from(m) + 1 >= 2 * g) {
                 assert_eq!(curve.terms(m).len(), usize::from(m) + 1 - g);
             }
         }

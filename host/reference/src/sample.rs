@@ -27,8 +27,12 @@ impl Shape {
 
     /// The shape of every accepted order of a curve.
     pub fn every_order(curve: Curve) -> impl Iterator<Item = Shape> {
-        let orders = (0..=u8::MAX).take(curve.point_count());
-        orders.map(move |m| Shape::of(curve, m))
+        curve.orders().map(move |m| Shape::of(curve, m))
+    }
+
+    /// The shape of every accepted order of both curves.
+    pub fn every() -> impl Iterator<Item = Shape> {
+        Curve::BOTH.into_iter().flat_map(Shape::every_order)
     }
 
     pub fn q(self) -> u8 {
@@ -107,6 +111,16 @@ pub fn another_symbol(generator: &mut Generator, shape: Shape, symbol: u8) -> u8
         .sum(symbol, generator.byte_from(1, shape.field_size - 1))
 }
 
+/// Eight digits of the number, lowest first; 4 stands for a missing symbol. In
+/// base 4 these are the words of the small curve, in base 5 its broken words.
+pub fn numbered_word(number: u32, base: u32) -> Vec<u8> {
+    let digit = |place: u32| match number / base.pow(place) % base {
+        4 => MISSING,
+        symbol => symbol as u8,
+    };
+    (0..8).map(digit).collect()
+}
+
 /// Every message of a small shape, each with its word.
 pub fn all_messages_with_words(shape: Shape) -> Vec<(Vec<u8>, Vec<u8>)> {
     let mut messages = vec![vec![]];
@@ -136,18 +150,16 @@ mod tests {
     #[test]
     fn broken_words_keep_the_known_symbols() {
         let mut generator = Generator::with_seed(41);
-        for curve in Curve::BOTH {
-            for shape in Shape::every_order(curve) {
-                let word = codeword(&mut generator, shape);
-                let known = generator.below(shape.n + 1);
-                let broken = with_known(&mut generator, &word, known);
-                assert_eq!(known_count(&broken), known);
-                let agrees = |(b, w): (&u8, &u8)| b == w || *b == MISSING;
-                assert!(broken.iter().zip(&word).all(agrees));
-                let columns = with_known_columns(&mut generator, shape, &word, 2);
-                assert_eq!(known_count(&columns), 2 * usize::from(shape.q()));
-                assert!(columns.iter().zip(&word).all(agrees));
-            }
+        for shape in Shape::every() {
+            let word = codeword(&mut generator, shape);
+            let known = generator.below(shape.n + 1);
+            let broken = with_known(&mut generator, &word, known);
+            assert_eq!(known_count(&broken), known);
+            let agrees = |(b, w): (&u8, &u8)| b == w || *b == MISSING;
+            assert!(broken.iter().zip(&word).all(agrees));
+            let columns = with_known_columns(&mut generator, shape, &word, 2);
+            assert_eq!(known_count(&columns), 2 * usize::from(shape.q()));
+            assert!(columns.iter().zip(&word).all(agrees));
         }
     }
 

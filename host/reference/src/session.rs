@@ -9,9 +9,9 @@ use crate::outcome::Outcome;
 /// The places that a session holds, for either curve.
 pub const PLACE_COUNT: usize = 64;
 
-/// Stands at a place where two different symbols of its round came (requests
-/// T-01 and T-04).
-pub const STRUCK: u8 = 254;
+/// The mark of a conflict, a place where two different symbols of its round
+/// arrived (requests T-01 and T-04: the place is struck out).
+pub const CONFLICT: u8 = 254;
 
 /// Every value is allowed, also one that no opening or arrival hands back.
 #[derive(Clone, Copy, Debug, PartialEq, Eq)]
@@ -19,7 +19,7 @@ pub struct Session {
     pub q: u8,
     pub m: u8,
     pub places: [u8; PLACE_COUNT],
-    /// The highest round heard at each place (request T-04).
+    /// The highest round received at each place (request T-04: heard there).
     pub rounds: [u8; PLACE_COUNT],
 }
 
@@ -44,26 +44,26 @@ impl Session {
     }
 
     /// Hands the session back with the symbol and its round stored or the place
-    /// struck out, or as it came.
+    /// marked as a conflict, or unchanged.
     pub fn arrive(self, place: u8, symbol: u8, round: u8) -> (Session, Outcome) {
         match self.check_arrival(place, symbol) {
-            Ok(()) => (self.with_heard(place, symbol, round), Outcome::ACCEPTED),
+            Ok(()) => (self.merged(place, symbol, round), Outcome::ACCEPTED),
             Err(refusal) => (self, refusal),
         }
     }
 
-    /// Recovery from the stored q, m and first n places, a struck one being
+    /// Recovery from the stored q, m and first n places, a conflict being
     /// missing.
     pub fn ask(&self, message: &mut [u8]) -> Outcome {
         match Curve::named(self.q) {
-            Some(curve) => code::recover(self.q, self.m, &self.standing(curve), message),
+            Some(curve) => code::recover(self.q, self.m, &self.received_word(curve), message),
             None => Outcome::UNKNOWN_CURVE,
         }
     }
 
     fn check_arrival(&self, place: u8, symbol: u8) -> Result<(), Outcome> {
         let curve = checks::curve_and_order(self.q, self.m)?;
-        checks::symbols_or_missing(curve.field(), &self.standing(curve))?;
+        checks::symbols_or_missing(curve.field(), &self.received_word(curve))?;
         if usize::from(place) >= curve.point_count() {
             return Err(Outcome::PLACE_TOO_HIGH);
         }
@@ -73,27 +73,27 @@ impl Session {
         Ok(())
     }
 
-    /// A missing place takes any symbol, and one that was heard a symbol of a
-    /// higher round. Else only a symbol of the same round counts: it strikes the
-    /// place out if that holds anything else.
-    fn with_heard(mut self, place: u8, symbol: u8, round: u8) -> Session {
+    /// A missing place takes any symbol, and any other place a symbol of a
+    /// higher round. Else only a symbol of the same round counts: the place is a
+    /// conflict if it holds anything else.
+    fn merged(mut self, place: u8, symbol: u8, round: u8) -> Session {
         let index = usize::from(place);
         let (held, highest) = (self.places[index], self.rounds[index]);
         if held == MISSING || round > highest {
             self.places[index] = symbol;
             self.rounds[index] = round;
         } else if round == highest && held != symbol {
-            self.places[index] = STRUCK;
+            self.places[index] = CONFLICT;
         }
         self
     }
 
-    /// The first n places, a struck one as missing; those from n on are never
+    /// The first n places, a conflict as missing; those from n on are never
     /// read.
-    fn standing(&self, curve: Curve) -> Vec<u8> {
-        let unless_struck = |&held: &u8| if held == STRUCK { MISSING } else { held };
+    fn received_word(&self, curve: Curve) -> Vec<u8> {
+        let conflict_as_missing = |&held: &u8| if held == CONFLICT { MISSING } else { held };
         let used = &self.places[..curve.point_count()];
-        used.iter().map(unless_struck).collect()
+        used.iter().map(conflict_as_missing).collect()
     }
 }
 
@@ -107,6 +107,16 @@ mod tests {
         let (session, outcome) = Session::open(q, m);
         assert_eq!(outcome, Outcome::ACCEPTED);
         session
+    }
+
+    /// The same value and round at every place.
+    fn with_one_value(q: u8, m: u8, value: u8, round: u8) -> Session {
+        Session {
+            q,
+            m,
+            places: [value; PLACE_COUNT],
+            rounds: [round; PLACE_COUNT],
+        }
     }
 
     fn refused_arrival(session: Session, place: u8, symbol: u8) -> Outcome {
@@ -175,15 +185,12 @@ mod tests {
 
     #[test]
     fn nothing_arrived_at_every_order() {
-        for curve in Curve::BOTH {
-            for m in (0..=u8::MAX).take(curve.point_count()) {
-                let k = curve.terms(m).len();
-                let mut message = vec![7; k];
-                let outcome = opened(curve.q(), m).ask(&mut message);
-                assert_eq!(outcome.number, 10);
-                assert_eq!(usize::from(outcome.second), k);
-                assert_eq!(message, vec![7; k]);
-            }
+        for shape in Shape::every() {
+            let mut message = vec![7; shape.k];
+            let outcome = opened(shape.q(), shape.m).ask(&mut message);
+            assert_eq!(outcome.number, 10);
+            assert_eq!(usize::from(outcome.second), shape.k);
+            assert_eq!(message, vec![7; shape.k]);
         }
     }
 
@@ -196,12 +203,7 @@ mod tests {
 
     #[test]
     fn arrivals_are_refused_in_the_order_of_the_checks() {
-        let mut session = Session {
-            q: 3,
-            m: 64,
-            places: [253; 64],
-            rounds: [0; 64],
-        };
+        let mut session = with_one_value(3, 64, 253, 0);
         assert_eq!(refused_arrival(session, 64, 16), Outcome::UNKNOWN_CURVE);
         session.q = 4;
         assert_eq!(refused_arrival(session, 64, 16), Outcome::ORDER_TOO_HIGH);
@@ -216,45 +218,45 @@ mod tests {
     }
 
     #[test]
-    fn a_differing_symbol_of_the_same_round_strikes_the_place_out() {
+    fn a_differing_symbol_of_the_same_round_is_a_conflict() {
         let session = after_arrivals(opened(4, 37), &[(5, 1)]);
-        let struck = after_arrivals(session, &[(5, 2)]);
-        assert_eq!(struck.places[5], 254);
+        let conflict = after_arrivals(session, &[(5, 2)]);
+        assert_eq!(conflict.places[5], 254);
         for symbol in 0..16 {
-            assert_eq!(after_arrivals(struck, &[(5, symbol)]), struck);
+            assert_eq!(after_arrivals(conflict, &[(5, symbol)]), conflict);
         }
-        let untouched = Session {
+        let all_missing = Session {
             places: [MISSING; PLACE_COUNT],
-            ..struck
+            ..conflict
         };
         let mut message = [9; 32];
-        assert_eq!(struck.ask(&mut message), untouched.ask(&mut [9; 32]));
+        assert_eq!(conflict.ask(&mut message), all_missing.ask(&mut [9; 32]));
         assert_eq!(message, [9; 32]);
     }
 
     #[test]
-    fn the_round_is_looked_at_first() {
+    fn the_round_is_compared_first() {
         let session = after_rounds(opened(4, 37), &[(5, 1, 3)]);
         assert_eq!(held_at(&session, 5), (1, 3));
-        let heard = |symbol, round| held_at(&after_rounds(session, &[(5, symbol, round)]), 5);
+        let stored = |symbol, round| held_at(&after_rounds(session, &[(5, symbol, round)]), 5);
         for symbol in [1, 2] {
-            assert_eq!(heard(symbol, 0), (1, 3));
-            assert_eq!(heard(symbol, 2), (1, 3));
-            assert_eq!(heard(symbol, 4), (symbol, 4));
-            assert_eq!(heard(symbol, 255), (symbol, 255));
+            assert_eq!(stored(symbol, 0), (1, 3));
+            assert_eq!(stored(symbol, 2), (1, 3));
+            assert_eq!(stored(symbol, 4), (symbol, 4));
+            assert_eq!(stored(symbol, 255), (symbol, 255));
         }
-        assert_eq!(heard(1, 3), (1, 3));
-        assert_eq!(heard(2, 3), (254, 3));
+        assert_eq!(stored(1, 3), (1, 3));
+        assert_eq!(stored(2, 3), (254, 3));
     }
 
     #[test]
-    fn a_struck_place_keeps_its_round_until_a_higher_one() {
-        let struck = after_rounds(opened(4, 37), &[(5, 1, 3), (5, 2, 3)]);
+    fn a_conflict_keeps_its_round_until_a_higher_one() {
+        let conflict = after_rounds(opened(4, 37), &[(5, 1, 3), (5, 2, 3)]);
         for symbol in 0..16 {
-            let unchanged = after_rounds(struck, &[(5, symbol, 2), (5, symbol, 3)]);
-            assert_eq!(unchanged, struck);
-            let revived = after_rounds(struck, &[(5, symbol, 4)]);
-            assert_eq!(held_at(&revived, 5), (symbol, 4));
+            let unchanged = after_rounds(conflict, &[(5, symbol, 2), (5, symbol, 3)]);
+            assert_eq!(unchanged, conflict);
+            let replaced = after_rounds(conflict, &[(5, symbol, 4)]);
+            assert_eq!(held_at(&replaced, 5), (symbol, 4));
         }
     }
 
@@ -263,13 +265,13 @@ mod tests {
         let mut session = opened(4, 37);
         session.rounds[5] = 200;
         for round in [0, 199, 200, 201] {
-            let heard = after_rounds(session, &[(5, 1, round)]);
-            assert_eq!(held_at(&heard, 5), (1, round));
+            let after = after_rounds(session, &[(5, 1, round)]);
+            assert_eq!(held_at(&after, 5), (1, round));
         }
     }
 
     #[test]
-    fn struck_places_are_no_bad_values_and_count_as_missing() {
+    fn conflicts_are_no_bad_values_and_count_as_missing() {
         let mut session = opened(2, 3);
         session.places[..8].copy_from_slice(&[0, 1, 254, 254, 0, 254, 255, 0]);
         let mut message = [0; 3];
@@ -282,9 +284,9 @@ mod tests {
     }
 
     #[test]
-    fn m_plus_1_unstruck_places_are_enough() {
+    fn m_plus_1_places_without_conflict_are_enough() {
         let mut generator = Generator::with_seed(33);
-        for shape in Curve::BOTH.into_iter().flat_map(Shape::every_order) {
+        for shape in Shape::every() {
             let message = sample::message(&mut generator, shape);
             let word = shape.word_of(&message);
             let mut session = opened(shape.q(), shape.m);
@@ -323,12 +325,7 @@ mod tests {
 
     #[test]
     fn askings_are_refused_in_the_order_of_the_checks() {
-        let mut session = Session {
-            q: 255,
-            m: 8,
-            places: [4; 64],
-            rounds: [255; 64],
-        };
+        let mut session = with_one_value(255, 8, 4, 255);
         let ask = |session: &Session, length: usize| {
             let mut message = vec![200; length];
             let outcome = session.ask(&mut message);
@@ -390,89 +387,90 @@ mod tests {
         }
     }
 
-    /// The slate of the paper, worked out from the arguments alone: for each
-    /// place the symbols that were taken there, with their rounds.
-    struct Slate {
-        taken: Vec<Vec<(u8, u8)>>,
+    /// The reference model of a session, which is document 01's slate, worked
+    /// out from the arguments alone: for each place the symbols that were
+    /// accepted there (document 01: taken), with their rounds.
+    struct Model {
+        accepted: Vec<Vec<(u8, u8)>>,
         field_size: u8,
     }
 
-    impl Slate {
-        fn takes(&mut self, place: u8, symbol: u8, round: u8) -> bool {
-            let Some(taken) = self.taken.get_mut(usize::from(place)) else {
+    impl Model {
+        /// Whether the arrival is accepted.
+        fn arrive(&mut self, place: u8, symbol: u8, round: u8) -> bool {
+            let Some(accepted) = self.accepted.get_mut(usize::from(place)) else {
                 return false;
             };
             if symbol >= self.field_size {
                 return false;
             }
-            taken.push((symbol, round));
+            accepted.push((symbol, round));
             true
         }
 
-        /// The symbol that stands at each place: the only one of the highest
-        /// round there.
-        fn standing(&self) -> impl Iterator<Item = Option<u8>> + '_ {
-            self.taken.iter().map(|taken| {
-                let highest = taken.iter().map(|&(_, round)| round).max()?;
-                let mut of_it = taken.iter().filter(|&&(_, round)| round == highest);
+        /// The symbol of each place: the only one of the highest round there.
+        fn symbols(&self) -> impl Iterator<Item = Option<u8>> + '_ {
+            self.accepted.iter().map(|accepted| {
+                let highest = accepted.iter().map(|&(_, round)| round).max()?;
+                let mut of_it = accepted.iter().filter(|&&(_, round)| round == highest);
                 let &(first, _) = of_it.next()?;
                 of_it.all(|&(symbol, _)| symbol == first).then_some(first)
             })
         }
 
         fn fits(&self, word: &[u8]) -> bool {
-            let mut pairs = self.standing().zip(word);
+            let mut pairs = self.symbols().zip(word);
             pairs.all(|(held, &symbol)| held.is_none_or(|held| held == symbol))
         }
 
-        fn held(&self) -> usize {
-            self.standing().flatten().count()
+        fn symbol_count(&self) -> usize {
+            self.symbols().flatten().count()
         }
     }
 
     #[test]
-    fn lists_of_arrivals_and_askings_agree_with_the_slate() {
+    fn lists_of_arrivals_and_askings_agree_with_the_reference_model() {
         let mut generator = Generator::with_seed(32);
         for m in (0..5).cycle().take(600) {
-            follow_the_slate(&mut generator, Shape::of(Curve::Q_IS_2, m));
+            compare_with_model(&mut generator, Shape::of(Curve::Q_IS_2, m));
         }
     }
 
-    fn follow_the_slate(generator: &mut Generator, shape: Shape) {
+    fn compare_with_model(generator: &mut Generator, shape: Shape) {
         let words = sample::all_messages_with_words(shape);
         let (_, target) = words[generator.below(words.len())].clone();
         let mut session = opened(shape.q(), shape.m);
-        let mut slate = Slate {
-            taken: vec![Vec::new(); shape.n],
+        let mut model = Model {
+            accepted: vec![Vec::new(); shape.n],
             field_size: shape.field_size,
         };
         for _ in 0..20 {
             let place = generator.below(10);
-            let rubbish = generator.below(6) as u8;
+            let arbitrary = generator.below(6) as u8;
             let follows_target = place < shape.n && generator.below(8) > 0;
             let symbol = if follows_target {
                 target[place]
             } else {
-                rubbish
+                arbitrary
             };
             let round = generator.byte_from(0, 2);
             let (after, outcome) = session.arrive(place as u8, symbol, round);
-            let taken = slate.takes(place as u8, symbol, round);
-            assert_eq!(outcome == Outcome::ACCEPTED, taken);
+            let accepted = model.arrive(place as u8, symbol, round);
+            assert_eq!(outcome == Outcome::ACCEPTED, accepted);
             session = after;
-            ask_by_the_slate(&session, &slate, &words, shape);
+            compare_asking_with_model(&session, &model, &words, shape);
         }
     }
 
-    fn ask_by_the_slate(
+    fn compare_asking_with_model(
         session: &Session,
-        slate: &Slate,
+        model: &Model,
         words: &[(Vec<u8>, Vec<u8>)],
         shape: Shape,
     ) {
         let fitting: Vec<&Vec<u8>> = words
             .iter()
-            .filter(|(_, word)| slate.fits(word))
+            .filter(|(_, word)| model.fits(word))
             .map(|(message, _)| message)
             .collect();
         let mut message = vec![99; shape.k];
@@ -484,7 +482,7 @@ mod tests {
                 assert_eq!(&message, *only);
             }
             several => {
-                assert!(slate.held() <= usize::from(shape.m));
+                assert!(model.symbol_count() <= usize::from(shape.m));
                 assert_eq!(outcome.number, 10);
                 assert_eq!(4usize.pow(u32::from(outcome.second)), several.len());
             }

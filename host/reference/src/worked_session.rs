@@ -18,8 +18,8 @@ pub struct WorkedSession {
 const ZEROS: [Arrival; 5] = [(0, 0, 0), (4, 0, 0), (7, 0, 0), (7, 0, 0), (5, 4, 0)];
 const ONE: [Arrival; 1] = [(1, 1, 0)];
 
-/// Two different symbols of round 3, and the first again.
-const fn strike(place: u8) -> [Arrival; 3] {
+/// Two different symbols of round 3, a conflict, and the first again.
+const fn conflict(place: u8) -> [Arrival; 3] {
     [(place, 1, 3), (place, 2, 3), (place, 1, 3)]
 }
 
@@ -31,12 +31,12 @@ pub fn worked_sessions() -> Vec<WorkedSession> {
         (&[], several(3)),
         (&[&ZEROS], several(1)),
         (&[&ZEROS, &ONE], message()),
-        // A struck place counts as missing, whether it was needed or not.
-        (&[&strike(2), &ZEROS, &ONE], message()),
-        (&[&ZEROS, &strike(1)], several(1)),
-        // A struck place heard again, in its round and in a higher one.
-        (&[&ZEROS, &strike(1), &[(1, 1, 3)]], several(1)),
-        (&[&ZEROS, &strike(1), &[(1, 1, 4)]], message()),
+        // A conflict counts as missing, whether the place was needed or not.
+        (&[&conflict(2), &ZEROS, &ONE], message()),
+        (&[&ZEROS, &conflict(1)], several(1)),
+        // A symbol after a conflict, in its round and in a higher one.
+        (&[&ZEROS, &conflict(1), &[(1, 1, 3)]], several(1)),
+        (&[&ZEROS, &conflict(1), &[(1, 1, 4)]], message()),
         // Differing symbols of a higher and a lower round.
         (&[&ZEROS, &[(1, 2, 0), (1, 1, 1), (1, 3, 0)]], message()),
         // The same symbol of a higher round takes that round.

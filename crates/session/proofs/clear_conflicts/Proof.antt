@@ -5,7 +5,7 @@ use Prim.Native.Nat.{_≤_, _-_}
 use native.Mathlib.Omega.{arith}
 use borrow.Author.Needs.{needs}
 use lib.ListN.{length, getD, length-set}
-use Rattle.poly.specs.Ranges.{writes}
+use Rattle.poly.specs.inner.Ranges.{writes}
 use Rattle.poly.proofs.Writes.{writes-turn, writes-kept, writes-end, writes-map}
 use Rattle.session.specs.Arrived.{conflictAsMissing}
 use Rattle.session.proofs.clear_conflicts.Statement.{statement}

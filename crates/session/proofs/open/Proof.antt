@@ -21,9 +21,9 @@ empty-session-requires-2 c κs = search needs
 
 returns : tie.Need-returns
 returns c =
-    let told = c .before in
-    let x = told .before .before .before .args in
-    rw (c .empty-session .ensures) (sym (opened-done (x .q) (x .m) _ (told .before .before .order .ensures) (told .enum-told .given .1)))
+    let answerOf = c .before in
+    let x = answerOf .before .before .before .args in
+    rw (c .empty-session .ensures) (sym (opened-done (x .q) (x .m) _ (answerOf .before .before .order .ensures) (answerOf .enum-told .given .1)))
 
 returns-2 : tie.Need-returns-2
 returns-2 c =

@@ -8,15 +8,11 @@ use reference::sample::{self, Shape};
 use crate::comparison::{compare, Call, Entry};
 use crate::tally::Tally;
 
-fn every_shape() -> impl Iterator<Item = Shape> {
-    Curve::BOTH.into_iter().flat_map(Shape::every_order)
-}
-
 /// Whole, damaged and arbitrary words, and words with any number missing, at
 /// every order of both curves.
 pub fn at_every_order(generator: &mut Generator, rounds: usize) -> Tally {
     let mut tally = Tally::new();
-    for shape in every_shape() {
+    for shape in Shape::every() {
         for _ in 0..rounds {
             well_formed_calls(shape, generator, &mut tally);
         }
@@ -74,20 +70,11 @@ fn every_small(generator: &mut Generator, entry: Entry, base: u32) -> Tally {
     let mut tally = Tally::new();
     for shape in Shape::every_order(Curve::Q_IS_2) {
         for number in 0..base.pow(8) {
-            let call = Call::fitting(entry, shape, digits(number, base));
+            let call = Call::fitting(entry, shape, sample::numbered_word(number, base));
             compare(&call, generator, &mut tally);
         }
     }
     tally
-}
-
-/// Eight digits of the number; 4 stands for a missing symbol.
-fn digits(number: u32, base: u32) -> Vec<u8> {
-    let digit = |place: u32| match number / base.pow(place) % base {
-        4 => MISSING,
-        symbol => symbol as u8,
-    };
-    (0..8).map(digit).collect()
 }
 
 /// Every curve number with every order, with lengths that fit some curve.
@@ -112,7 +99,7 @@ pub fn every_curve_number_and_order(generator: &mut Generator) -> Tally {
 /// Every byte at an arbitrary index, at every order, by every entry.
 pub fn every_byte(generator: &mut Generator) -> Tally {
     let mut tally = Tally::new();
-    for shape in every_shape() {
+    for shape in Shape::every() {
         for entry in Entry::ALL {
             for value in shape.field_size..=255 {
                 let length = entry.lengths(shape).0;
@@ -128,7 +115,7 @@ pub fn every_byte(generator: &mut Generator) -> Tally {
 /// One fault or several at once: the first check that applies must decide.
 pub fn faulty(generator: &mut Generator, rounds: usize) -> Tally {
     let mut tally = Tally::new();
-    let shapes: Vec<Shape> = every_shape().collect();
+    let shapes: Vec<Shape> = Shape::every().collect();
     for round in 0..rounds {
         let shape = shapes[generator.below(shapes.len())];
         let call = faulty_call(Entry::ALL[round % 3], shape, generator);
@@ -142,7 +129,7 @@ fn faulty_call(entry: Entry, shape: Shape, generator: &mut Generator) -> Call {
     let input = sample::symbols(generator, shape, input_length);
     let mut call = Call::fitting(entry, shape, input);
     // The rarest fault first in the order of the checks, so that each number
-    // comes up often.
+    // occurs often.
     if generator.below(12) == 0 {
         call.q = generator.byte();
     }
@@ -154,7 +141,7 @@ fn faulty_call(entry: Entry, shape: Shape, generator: &mut Generator) -> Call {
         call.input.resize(length, 0);
     }
     for _ in 0..generator.below(4) {
-        spoil(&mut call.input, shape, generator);
+        write_arbitrary_value(&mut call.input, shape, generator);
     }
     if generator.below(2) == 0 {
         call.output_length = wrong_length(output_length, generator);
@@ -184,7 +171,7 @@ fn wrong_length(right: usize, generator: &mut Generator) -> usize {
     choices[generator.below(count)]
 }
 
-fn spoil(input: &mut [u8], shape: Shape, generator: &mut Generator) {
+fn write_arbitrary_value(input: &mut [u8], shape: Shape, generator: &mut Generator) {
     let size = shape.field_size;
     let value = [size, size + 1, 127, 128, 254, MISSING, generator.byte()][generator.below(7)];
     let index = generator.below(input.len());

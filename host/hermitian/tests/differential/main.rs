@@ -39,7 +39,7 @@ fn the_library_answers_as_the_reference() {
     }
     say(&all.to_string());
     assert!(all.total() >= LEAST_CALLS);
-    every_answer_came_up(&all);
+    every_answer_occurred(&all);
     every_order_was_accepted(&all);
 }
 
@@ -83,7 +83,7 @@ fn say(line: &str) {
 /// Refusals 6 and 7 are those of sessions, which have no C entry; 8 no longer
 /// occurs; a message always has a word; a whole word never leaves several
 /// messages.
-fn every_answer_came_up(tally: &Tally) {
+fn every_answer_occurred(tally: &Tally) {
     for entry in Entry::ALL {
         for number in 0..=10 {
             let possible = match number {

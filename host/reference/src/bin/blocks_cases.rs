@@ -2,18 +2,16 @@
 
 use reference::blocks::blocks;
 use reference::file_pair;
-use reference::record_sample::records;
 use std::process::ExitCode;
 
 fn main() -> ExitCode {
-    let input = records();
-    let expected = blocks(&input);
-    file_pair::write_to_arguments("blocks_cases INPUT_FILE EXPECTED_FILE", &input, &expected)
+    file_pair::write_records("blocks_cases INPUT_FILE EXPECTED_FILE", blocks)
 }
 
 #[cfg(test)]
 mod tests {
     use super::*;
+    use reference::record_sample::records;
     use std::collections::BTreeSet;
 
     #[test]
@@ -27,7 +25,7 @@ mod tests {
     }
 
     #[test]
-    fn every_kind_of_line_comes_up() {
+    fn every_kind_of_line_occurs() {
         let text = blocks(&records());
         let kinds: BTreeSet<&str> = text
             .lines()

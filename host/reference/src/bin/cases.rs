@@ -7,7 +7,7 @@ use reference::curve::Curve;
 use reference::file_pair;
 use reference::generator::Generator;
 use reference::sample::{self, Shape};
-use reference::session::{PLACE_COUNT, STRUCK};
+use reference::session::{CONFLICT, PLACE_COUNT};
 use reference::worked_session::worked_sessions;
 use std::process::ExitCode;
 
@@ -43,13 +43,13 @@ fn all_cases() -> Vec<Case> {
     builder.before_any_opening();
     builder.field_cases();
     builder.bad_curves_and_orders();
-    for shape in Curve::BOTH.into_iter().flat_map(Shape::every_order) {
+    for shape in Shape::every() {
         builder.encode_cases(shape);
         builder.unencode_cases(shape);
         builder.recover_cases(shape);
     }
     builder.session_runs();
-    builder.strike_runs();
+    builder.conflict_runs();
     builder.round_runs();
     builder.raw_sessions();
     builder.worked_sessions();
@@ -111,7 +111,7 @@ impl Builder {
 
 /// Cases of encoding, unencoding and recovery.
 impl Builder {
-    /// The slice to be written holds rubbish before the call, so that a
+    /// The slice to be written holds arbitrary bytes before the call, so that a
     /// refusal that writes is seen.
     fn code_case(&mut self, op: u8, q: u8, m: u8, input: Vec<u8>, output_length: usize) {
         let output = self.generator.bytes(output_length);
@@ -137,8 +137,8 @@ impl Builder {
             let n = if q == 2 { 8 } else { 64 };
             for (op, input, output) in [(b'e', 32, n), (b'u', n, 32), (b'r', n, 32)] {
                 self.code_case(op, q, m, vec![1; input], output);
-                let rubbish = self.generator.bytes(input - 1);
-                self.code_case(op, q, m, rubbish, output + 1);
+                let arbitrary = self.generator.bytes(input - 1);
+                self.code_case(op, q, m, arbitrary, output + 1);
             }
         }
     }
@@ -348,25 +348,24 @@ impl Builder {
         }
     }
 
-    /// Strikes in one round that leave exactly m + 1 or m unstruck places, and
-    /// fewer.
-    fn strike_runs(&mut self) {
+    /// Conflicts in one round that leave exactly m + 1 or m symbols, and fewer.
+    fn conflict_runs(&mut self) {
         for shape in Shape::every_order(Curve::Q_IS_2) {
             let m = usize::from(shape.m);
             for left in [m + 1, m, m / 2] {
-                self.strike_run(shape, left);
+                self.conflict_run(shape, left);
             }
         }
         for m in [2, 5, 11, 37, 62] {
             let shape = Shape::of(Curve::Q_IS_4, m);
-            self.strike_run(shape, usize::from(m) + 1);
-            self.strike_run(shape, usize::from(m));
+            self.conflict_run(shape, usize::from(m) + 1);
+            self.conflict_run(shape, usize::from(m));
         }
     }
 
     /// Opens a session, lets one symbol of a word more than `left` arrive, or
-    /// all n, and strikes one of their places; then one that was missing.
-    fn strike_run(&mut self, shape: Shape, left: usize) {
+    /// all n, and makes one of their places a conflict; then one that was missing.
+    fn conflict_run(&mut self, shape: Shape, left: usize) {
         let word = sample::codeword(&mut self.generator, shape);
         let places = self.generator.permutation(shape.n);
         let known = (left + 1).min(shape.n);
@@ -376,20 +375,20 @@ impl Builder {
             self.arrive_in_round(round, place, word[place]);
         }
         self.ask(shape.k);
-        let struck = places[self.generator.below(known)];
-        self.strike(shape, round, struck, word[struck]);
+        let conflict = places[self.generator.below(known)];
+        self.conflict(shape, round, conflict, word[conflict]);
         if let Some(&place) = places.get(known) {
-            self.strike_with_the_wrong_symbol_first(shape, round, place, word[place]);
+            self.conflict_with_the_wrong_symbol_first(shape, round, place, word[place]);
         }
         if let Some(higher) = round.checked_add(1) {
-            self.arrive_in_round(higher, struck, word[struck]);
+            self.arrive_in_round(higher, conflict, word[conflict]);
             self.ask(shape.k);
         }
     }
 
     /// `place` holds `first` of the round: another, a third, and the first again
-    /// come.
-    fn strike(&mut self, shape: Shape, round: u8, place: usize, first: u8) {
+    /// arrive.
+    fn conflict(&mut self, shape: Shape, round: u8, place: usize, first: u8) {
         let another = sample::another_symbol(&mut self.generator, shape, first);
         self.arrive_in_round(round, place, another);
         self.ask(shape.k);
@@ -400,7 +399,7 @@ impl Builder {
         self.ask(shape.k);
     }
 
-    fn strike_with_the_wrong_symbol_first(
+    fn conflict_with_the_wrong_symbol_first(
         &mut self,
         shape: Shape,
         round: u8,
@@ -493,7 +492,7 @@ impl Builder {
 
     fn raw_sessions(&mut self) {
         for shape in Shape::every_order(Curve::Q_IS_2) {
-            self.rubbish_behind_the_word(shape);
+            self.arbitrary_bytes_after_the_word(shape);
         }
         for curve in Curve::BOTH {
             for m in [3, 7] {
@@ -509,18 +508,18 @@ impl Builder {
 
     fn stored_values(&mut self, shape: Shape) {
         self.whole_word_stored(shape);
-        self.struck_places_stored(shape);
+        self.stored_conflicts(shape);
         self.bad_stored_values(shape);
     }
 
     /// A q = 2 session whose places from 8 on hold anything.
-    fn rubbish_behind_the_word(&mut self, shape: Shape) {
+    fn arbitrary_bytes_after_the_word(&mut self, shape: Shape) {
         let word = sample::codeword(&mut self.generator, shape);
         let known = self.generator.below(shape.n);
         let mut places = sample::with_known(&mut self.generator, &word, known);
         let missing = places.iter().position(|&symbol| symbol == MISSING);
-        let rubbish = self.generator.bytes(PLACE_COUNT - shape.n);
-        places.extend(rubbish);
+        let arbitrary = self.generator.bytes(PLACE_COUNT - shape.n);
+        places.extend(arbitrary);
         self.set(shape.q(), shape.m, &places);
         self.ask(shape.k);
         self.ask(shape.k + 1);
@@ -534,7 +533,7 @@ impl Builder {
     fn whole_word_stored(&mut self, shape: Shape) {
         let word = sample::codeword(&mut self.generator, shape);
         let mut places = word.clone();
-        places.resize(PLACE_COUNT, 254);
+        places.resize(PLACE_COUNT, CONFLICT);
         self.set(shape.q(), shape.m, &places);
         self.ask(shape.k);
         let place = self.generator.below(shape.n);
@@ -547,15 +546,15 @@ impl Builder {
         self.ask(shape.k);
     }
 
-    /// A word with half of its missing places struck out, and then also a
-    /// value that may stand nowhere.
-    fn struck_places_stored(&mut self, shape: Shape) {
+    /// A word with half of its missing places in conflict, and then also a
+    /// value that no place may hold.
+    fn stored_conflicts(&mut self, shape: Shape) {
         let word = sample::codeword(&mut self.generator, shape);
         let known = self.generator.below(shape.n - 1);
         let mut places = sample::with_known(&mut self.generator, &word, known);
         let missing = places.iter_mut().filter(|symbol| **symbol == MISSING);
-        missing.step_by(2).for_each(|symbol| *symbol = STRUCK);
-        places.resize(PLACE_COUNT, STRUCK);
+        missing.step_by(2).for_each(|symbol| *symbol = CONFLICT);
+        places.resize(PLACE_COUNT, CONFLICT);
         self.set(shape.q(), shape.m, &places);
         self.ask(shape.k);
         for place in [0, shape.n / 2, shape.n - 1] {
@@ -564,7 +563,7 @@ impl Builder {
         }
         self.arrive(shape.n, 0);
         let index = self.generator.below(shape.n);
-        places[index] = STRUCK - 1;
+        places[index] = CONFLICT - 1;
         self.set(shape.q(), shape.m, &places);
         self.ask(shape.k);
         self.arrive(index, 0);
@@ -574,7 +573,7 @@ impl Builder {
         let arbitrary = self.generator.below(shape.n);
         for index in [0, arbitrary, shape.n - 1] {
             let mut places = vec![MISSING; PLACE_COUNT];
-            places[shape.n - 1] = 254;
+            places[shape.n - 1] = CONFLICT;
             places[index] = shape.field_size;
             self.set(shape.q(), shape.m, &places);
             self.ask(shape.k);
@@ -603,8 +602,8 @@ impl Builder {
         self.set(q, m, &[MISSING; PLACE_COUNT]);
         self.arrive(0, 0);
         self.ask(1);
-        let rubbish = self.generator.bytes(PLACE_COUNT);
-        self.set(q, m, &rubbish);
+        let arbitrary = self.generator.bytes(PLACE_COUNT);
+        self.set(q, m, &arbitrary);
         self.arrive(255, 255);
         self.ask(0);
     }
@@ -635,7 +634,7 @@ mod tests {
     /// Each op gets every answer that it can give and no other, and every
     /// order is encoded, unencoded and recovered.
     #[test]
-    fn every_answer_of_every_op_and_every_order_come_up() {
+    fn every_answer_of_every_op_and_every_order_occur() {
         let cases = all_cases();
         let mut runner = Runner::default();
         let lines: Vec<String> = cases.iter().map(|case| runner.run(case)).collect();
@@ -650,24 +649,24 @@ mod tests {
         assert_eq!(accepted.len(), 3 * (8 + 64));
     }
 
-    /// A missing place, and a symbol or a strike that a lower, the same or a
-    /// higher round comes to, the same symbol or another.
+    /// A missing place, and a symbol or a conflict where one of a lower, the same
+    /// or a higher round arrives, the same symbol or another.
     #[test]
-    fn every_way_of_an_arrival_comes_up() {
+    fn every_kind_of_arrival_occurs() {
         let mut runner = Runner::default();
-        let mut ways = BTreeSet::new();
+        let mut kinds = BTreeSet::new();
         for case in all_cases() {
             let before = *runner.session();
             let line = runner.run(&case);
             if op_and_number(&line) == "a 0" {
                 let index = usize::from(case.a);
                 let held = before.places[index];
-                let kind = [MISSING, STRUCK].into_iter().find(|&mark| mark == held);
+                let mark = [MISSING, CONFLICT].into_iter().find(|&mark| mark == held);
                 let round = case.round.cmp(&before.rounds[index]);
-                ways.insert((kind, round, held == case.b));
+                kinds.insert((mark, round, held == case.b));
             }
         }
-        assert_eq!(ways.len(), 3 + 3 + 3 * 2);
+        assert_eq!(kinds.len(), 3 + 3 + 3 * 2);
     }
 
     fn op_and_number(line: &str) -> String {

@@ -2,22 +2,20 @@
 
 use reference::file_pair;
 use reference::page::page;
-use reference::record_sample::records;
 use std::process::ExitCode;
 
 fn main() -> ExitCode {
-    let input = records();
-    let expected = page(&input);
-    file_pair::write_to_arguments("page_cases INPUT_FILE EXPECTED_FILE", &input, &expected)
+    file_pair::write_records("page_cases INPUT_FILE EXPECTED_FILE", page)
 }
 
 #[cfg(test)]
 mod tests {
     use super::*;
+    use reference::record_sample::records;
     use std::collections::BTreeSet;
 
     #[test]
-    fn every_kind_of_last_line_comes_up() {
+    fn every_kind_of_last_line_occurs() {
         let text = page(&records());
         let lines: Vec<&str> = text.lines().collect();
         let kinds: BTreeSet<&str> = lines
@@ -28,7 +26,7 @@ mod tests {
     }
 
     #[test]
-    fn a_bad_value_comes_up_at_the_first_place_and_at_the_last() {
+    fn a_bad_value_occurs_at_the_first_place_and_at_the_last() {
         let text = page(&records());
         assert!(text.contains("0: 0=? 1="));
         assert!(text

@@ -7,7 +7,7 @@ use native.Mathlib.Nat.{le-antisymm}
 use native.Mathlib.Omega.{arith}
 use denote.Ref.{now}
 use lib.ListN.{length}
-use Rattle.code.specs.Highest.{Highest}
+use Rattle.code.specs.inner.Highest.{Highest}
 use Rattle.code.proofs.Highest.{highest-none, highest-new, highest-kept}
 use Rattle.code.proofs.check.highest.Statement.{statement}
 use Rattle.code.proofs.check.highest.Tie as tie

@@ -16,7 +16,7 @@ use Rattle.code.specs.Points.{columnsOf}
 use Rattle.code.specs.Terms.{size}
 use Rattle.code.specs.Word.{wordOf}
 use Rattle.code.specs.Answers.{answered}
-use Rattle.code.specs.Encodable.{Encodable}
+use Rattle.code.specs.inner.Encodable.{Encodable}
 use Rattle.code.specs.Encoded.{encoded}
 use Rattle.code.proofs.Checks.{Accepted, call-done}
 use Rattle.code.proofs.Answers.{not-refused, entry-refused}

@@ -1,52 +1,135 @@
--- `code::encoding::evaluate_columns` meets its contract: each turn writes the values at one y of each column.
+-- `code::encoding::evaluate_columns` meets its contract: each turn writes the part of one column.
 -- Assumes nothing.
-use mathlib.Core.Path.{_≡_, refl, _∙_}
-use Prim.Native.Nat.{_-_}
+use mathlib.Core.Path.{_≡_, refl, sym, _∙_, subst}
+use Prim.Native.Nat.{_+_, _-_, _*_, _≤_, _<_}
+use native.Mathlib.Nat.{mul-zero}
 use native.Mathlib.Omega.{arith}
+use borrow.Author.Needs.{needs}
+use borrow.Rule.Slice.PartMut.{same-len-mid, mid-len}
 use denote.Ref.{now}
-use lib.ListN.{length}
-use Rattle.code.proofs.Stages.{Written, written-none, written-turn, written-all}
+use lib.ListN.{length, getD}
+use Rattle.field.proofs.Curves.{sizes}
+use Rattle.poly.specs.inner.Ranges.{Blocks}
+use Rattle.poly.proofs.Blocks.{blocks-none, block-start, block-fits}
+use Rattle.code.specs.inner.Encodable.{columnValue}
+use Rattle.code.proofs.YsTables.{table-fits, taken-below, taken-at}
+use Rattle.code.proofs.Stages.{columns-turn}
 use Rattle.code.proofs.encoding.evaluate_columns.Statement.{statement}
 use Rattle.code.proofs.encoding.evaluate_columns.Tie as tie
 
 abbrev Inv-loop : tie.InvT-loop
-Inv-loop q columns rows word₀ width s₀ word s = (length word ≡ length word₀) × Written q columns rows word s
+Inv-loop q columns rows word₀ width c all t₀ at₀ word t at =
+    (t ≤ length columns) × (at ≡ q * t) × (length word ≡ length word₀) × Blocks q (columnValue q columns rows) word t
 
 abbrev μ-loop : tie.MeasureT-loop
-μ-loop q columns rows word₀ width s₀ word s = q - s
+μ-loop q columns rows word₀ width c all t₀ at₀ word t at = length columns - t
+
+-- the column's part is within the word, and its y are within all
+fits : (c : tie.In-loop Inv-loop μ-loop)
+    → c .before .loop .at + c .before .before .before .before .before .before .args .q ≤ length (c .before .loop .word)
+fits c =
+    let s = c .before .before .before .before .before .before in
+    let l = c .before .loop in
+    omega (arith, l .inv .1, l .inv .2, s .pre .2, block-fits (s .args .q) (l .t) (length (now (s .args .columns))) (omega arith))
+
+column-small : (c : tie.In-loop Inv-loop μ-loop)
+    → let x = c .before .before .before .before .before .before .args in getD (now (x .columns)) (c .before .loop .t) 0 < x .q * x .q
+column-small c = c .before .before .before .before .before .before .pre .0 .over .small (c .before .loop .t) (omega arith)
+
+column-fits : (c : tie.In-loop Inv-loop μ-loop)
+    → let x = c .before .before .before .before .before .before .args in x .q * getD (now (x .columns)) (c .before .loop .t) 0 + 0 < 64
+column-fits c =
+    let s = c .before .before .before .before .before .before in
+    table-fits (s .args .q) (s .pre .0 .over .curve) (getD (now (s .args .columns)) (c .before .loop .t) 0) 0 (column-small c)
+    (omega (arith, sizes (s .args .q) (s .pre .0 .over .curve) .low))
+
+padded-ys-requires : tie.Need-padded-ys-requires Inv-loop μ-loop
+padded-ys-requires c κs = c .before .before .before .pre .0 .over .curve
 
 loop-holds : tie.Need-loop-holds Inv-loop μ-loop
-loop-holds c = let a = c .before .before .before .args in (refl, written-none (a .q) (now (a .columns)) (now (a .rows)) (now (a .word)))
+loop-holds c =
+    let x = c .before .before .before .before .args in
+    (omega arith, sym (mul-zero _), refl, blocks-none (x .q) (columnValue (x .q) (now (x .columns)) (now (x .rows))) (now (x .word)))
 
-evaluate-ys-requires : tie.Need-evaluate-ys-requires Inv-loop μ-loop
-evaluate-ys-requires c κs =
-    let h = c .before .before .before .before .before .before .pre in
-    let l = c .before .before .loop in
-    (record { over = h .over; few = h .few; long = h .long; symbols = h .symbols; room = omega (arith, h .room, l .inv .0) }, c .before .loop-test .taken)
+shared-slice-read-from : tie.Need-shared-slice-read-from Inv-loop μ-loop
+shared-slice-read-from c = omega arith
 
-add-s : tie.Need-add-s Inv-loop μ-loop
-add-s c = omega arith
+cast-from : tie.Need-cast-from Inv-loop μ-loop
+cast-from c = omega (arith, c .shared-slice-known3 .given (c .before .before .loop .t))
+
+mul-from : tie.Need-mul-from Inv-loop μ-loop
+mul-from c = omega (arith, column-fits (c .before))
+
+add-end : tie.Need-add-end Inv-loop μ-loop
+add-end c = omega (arith, fits (c .before))
+
+slice-aggregate-take : tie.Need-slice-aggregate-take Inv-loop μ-loop
+slice-aggregate-take c = search needs
+
+take-requires : tie.Need-take-requires Inv-loop μ-loop
+take-requires c κs = omega (arith, column-fits (c .before .before), c .before .before .before .before .padded-ys .ensures .long)
+
+sub-evaluate-column : tie.Need-sub-evaluate-column Inv-loop μ-loop
+sub-evaluate-column c = omega arith
+
+part-evaluate-column-start : tie.Need-part-evaluate-column-start Inv-loop μ-loop
+part-evaluate-column-start c = omega arith
+
+part-evaluate-column-end : tie.Need-part-evaluate-column-end Inv-loop μ-loop
+part-evaluate-column-end c = omega (arith, fits (c .before .before .before .before))
+
+evaluate-column-requires : tie.Need-evaluate-column-requires Inv-loop μ-loop
+evaluate-column-requires c κs =
+    let s = c .before .before .before .before .before .before .before .before .before .before .before in
+    let x = s .args in
+    let l = c .before .before .before .before .before .before .loop in
+    let all = c .before .before .before .before .before .before .before .padded-ys in (
+      (
+        s .pre .0 .over .curve,
+        taken-below (x .q) (getD (now (x .columns)) (l .t) 0) _ _ (all .ensures) (c .before .before .take .ensures),
+        s .pre .0 .symbols,
+      ),
+      (
+        omega (arith, s .pre .0 .few, c .before .before .before .before .before .loop-test .taken),
+        s .pre .1,
+        mid-len (l .at) (l .at + x .q) (l .word) (fits (c .before .before .before .before .before)) ∙ omega arith,
+      ),
+    )
+
+add-t : tie.Need-add-t Inv-loop μ-loop
+add-t c = omega arith
 
 loop-less : tie.Need-loop-less Inv-loop μ-loop
 loop-less c = omega arith
 
 loop-again : tie.Need-loop-again Inv-loop μ-loop
 loop-again c =
-    let a = c .before .before .before .before .before .before .before .before .before .args in
-    let l = c .before .before .before .before .before .loop in
-    let e = c .before .before .evaluate-ys in (
-      e .kept .1 .1 .1 .1 .0 ∙ l .inv .0,
-      written-turn (a .q) (now (a .columns)) (now (a .rows)) (l .word) _ (l .s) (c .before .before .before .before .loop-test .taken) (l .inv .1) (e .ensures),
+    let s = c .before .before .before .before .before .before .before .before .before .before .before .before .before .before in
+    let x = s .args in
+    let l = c .before .before .before .before .before .before .before .before .before .loop in
+    let k = c .before .before .before .before .before .before .before .before in
+    let all = c .before .before .before .before .before .before .before .before .before .before .padded-ys in
+    let ys = c .before .before .before .before .before .take in
+    let e = c .before .before .evaluate-column in
+    let last = e .last .1 .1 .1 .1 .0 in (
+      omega arith,
+      block-start (x .q) (l .t) (l .at) (l .at + x .q) (l .inv .1) refl,
+      same-len-mid (l .at) (l .at + x .q - l .at) (l .word) last (e .kept .1 .1 .1 .1 .0) ∙ l .inv .2,
+      columns-turn (x .q) (now (x .columns)) (now (x .rows)) (l .word) (ys .result) last (l .t) (l .at) (l .inv .3) (l .inv .1) (fits k)
+          (e .kept .1 .1 .1 .1 .0 ∙ mid-len (l .at) (l .at + x .q) (l .word) (fits k) ∙ omega arith) (e .ensures)
+          (taken-at (x .q) (getD (now (x .columns)) (l .t) 0) (all .result) (ys .result) (all .ensures) (ys .ensures)
+          (s .pre .0 .over .curve) (column-small k)),
     )
 
 same-length : tie.Need-same-length Inv-loop μ-loop
-same-length c = c .before .loop .inv .0
+same-length c = c .before .loop .inv .2
 
 returns : tie.Need-returns Inv-loop μ-loop
 returns c =
-    let a = c .before .before .before .before .before .args in
+    let x = c .before .before .before .before .before .before .args in
     let l = c .before .loop in
-    written-all (a .q) (now (a .columns)) (now (a .rows)) (l .word) (l .s) (c .loop-test .left) (l .inv .1)
+    let e : l .t ≡ length (now (x .columns)) = omega arith in
+    subst (Blocks (x .q) (columnValue (x .q) (now (x .columns)) (now (x .rows))) (l .word)) e (l .inv .3)
 
 pub evaluate-columns-spec : {M : Type 1} → statement M
 evaluate-columns-spec =
@@ -54,9 +137,19 @@ evaluate-columns-spec =
     (tie.spec
     Inv-loop
     μ-loop
+    padded-ys-requires
     loop-holds
-    evaluate-ys-requires
-    add-s
+    shared-slice-read-from
+    cast-from
+    mul-from
+    add-end
+    slice-aggregate-take
+    take-requires
+    sub-evaluate-column
+    part-evaluate-column-start
+    part-evaluate-column-end
+    evaluate-column-requires
+    add-t
     loop-less
     loop-again
     same-length

@@ -2,60 +2,77 @@
 -- Assumes nothing.
 use mathlib.Core.Path.{_≡_, refl, _∙_}
 use Prim.Native.Nat.{_+_, _-_, _*_, _≤_}
-use native.Mathlib.Nat.{mul-comm, mul-le-mul-left}
+use native.Mathlib.Nat.{mul-le-mul-left}
 use native.Mathlib.Omega.{arith}
+use borrow.Author.Needs.{needs}
 use borrow.Rule.Slice.PartMut.{same-len-mid, mid-len}
 use denote.Ref.{now}
 use lib.ListN.{length}
 use Rattle.poly.proofs.Blocks.{block-start, block-fits}
-use Rattle.code.specs.Encodable.{Rowed}
-use Rattle.code.proofs.Stages.{columns-below, rows-none, rows-turn, rows-all}
+use Rattle.code.specs.inner.Encodable.{Rowed}
+use Rattle.code.proofs.Stages.{places-at, places-below, rows-none, rows-turn, rows-all}
 use Rattle.code.proofs.encoding.evaluate_rows.Statement.{statement}
 use Rattle.code.proofs.encoding.evaluate_rows.Tie as tie
 
 abbrev Inv-loop : tie.InvT-loop
-Inv-loop q columns n grid rows₀ width c j₀ at₀ rows j at =
-    (at ≡ length columns * j) × (length rows ≡ length rows₀) × Rowed q columns n grid rows j
+Inv-loop q columns n grid rows₀ width places j₀ at₀ rows j at =
+    (at ≡ 16 * j) × (length rows ≡ length rows₀) × Rowed q columns n grid rows j
 
 abbrev μ-loop : tie.MeasureT-loop
-μ-loop q columns n grid rows₀ width c j₀ at₀ rows j at = q - j
+μ-loop q columns n grid rows₀ width places j₀ at₀ rows j at = q - j
 
 -- the row is within rows
-fits : (c : tie.In-loop Inv-loop μ-loop) → let x = c .before .before .before .before .before .args in c .before .loop .at + length (now (x .columns)) ≤ length (c .before .loop .rows)
+fits : (c : tie.In-loop Inv-loop μ-loop) → c .before .loop .at + 16 ≤ length (c .before .loop .rows)
 fits c =
-    let x = c .before .before .before .before .before .args in
+    let s = c .before .before .before .before .before .before .before .before in
     let l = c .before .loop in
-    omega (arith, l .inv .0, l .inv .1, c .before .before .before .before .before .pre .0 .room, mul-comm (x .q) (length (now (x .columns))), block-fits (length (now (x .columns))) (l .j) (x .q) (c .loop-test .taken))
+    omega (arith, l .inv .0, l .inv .1, s .pre .1 .2, block-fits 16 (l .j) (s .args .q) (c .loop-test .taken))
+
+slice-aggregate-copy : tie.Need-slice-aggregate-copy Inv-loop μ-loop
+slice-aggregate-copy c = search needs
+
+copy-requires : tie.Need-copy-requires Inv-loop μ-loop
+copy-requires c κs = (omega arith, c .before .before .before .before .pre .0 .0 .few)
 
 loop-holds : tie.Need-loop-holds Inv-loop μ-loop
 loop-holds c =
-    let s = c .before .before .before in
-    (omega arith, refl, rows-none (s .args .q) (now (s .args .columns)) (s .args .n) (now (s .args .grid)) (now (s .args .rows)) (s .pre .3))
+    let s = c .before .before .before .before .before .before in
+    (refl, refl, rows-none (s .args .q) (now (s .args .columns)) (s .args .n) (now (s .args .grid)) (now (s .args .rows)) (s .pre .0 .1))
 
 add-end : tie.Need-add-end Inv-loop μ-loop
 add-end c = omega (arith, fits c)
 
-sub-evaluate-at : tie.Need-sub-evaluate-at Inv-loop μ-loop
-sub-evaluate-at c = omega arith
+terms-requires : tie.Need-terms-requires Inv-loop μ-loop
+terms-requires c κs = let p = c .before .before .before .before .before .before .before .before .pre .1 in (p .0, c .loop-test .taken, p .1)
 
-part-evaluate-at-start : tie.Need-part-evaluate-at-start Inv-loop μ-loop
-part-evaluate-at-start c = omega arith
-
-part-evaluate-at-end : tie.Need-part-evaluate-at-end Inv-loop μ-loop
-part-evaluate-at-end c = omega (arith, fits c)
-
-evaluate-at-requires : tie.Need-evaluate-at-requires Inv-loop μ-loop
-evaluate-at-requires c κs =
-    let s = c .before .before .before .before .before .before in
-    let l = c .before .before .loop in (
-      (s .pre .0 .symbols, columns-below (s .args .q) (now (s .args .columns)) (s .pre .0 .over)),
+evaluate-requires : tie.Need-evaluate-requires Inv-loop μ-loop
+evaluate-requires c κs =
+    let s = c .before .before .before .before .before .before .before .before .before .before in
+    let h = s .pre .0 .0 in
+    let e = c .before .terms .ensures in (
       (
-        s .pre .1,
-        c .before .loop-test .taken,
-        omega (arith, s .pre .0 .long, mul-le-mul-left (s .args .q) (s .pre .2)),
-        mid-len (l .at) (l .at + length (now (s .args .columns))) (l .rows) (fits (c .before)) ∙ omega arith,
+        h .symbols,
+        places-below (s .args .q) (now (s .args .columns)) (h .few) _ (c .before .before .before .before .before .copy .ensures) (h .over),
       ),
+      (e .some, c .before .before .loop-test .taken, omega (arith, s .pre .1 .1, mul-le-mul-left (s .args .q) (e .within))),
     )
+
+slice-aggregate-copy-2 : tie.Need-slice-aggregate-copy-2 Inv-loop μ-loop
+slice-aggregate-copy-2 c = search needs
+
+sub-copy : tie.Need-sub-copy Inv-loop μ-loop
+sub-copy c = omega arith
+
+part-copy-start : tie.Need-part-copy-start Inv-loop μ-loop
+part-copy-start c = omega arith
+
+part-copy-end : tie.Need-part-copy-end Inv-loop μ-loop
+part-copy-end c = omega (arith, fits (c .before .before .before .before))
+
+copy-requires-2 : tie.Need-copy-requires-2 Inv-loop μ-loop
+copy-requires-2 c κs =
+    let l = c .before .before .before .before .before .before .loop in
+    (omega arith, omega (arith, mid-len (l .at) (l .at + 16) (l .rows) (fits (c .before .before .before .before .before))))
 
 add-j : tie.Need-add-j Inv-loop μ-loop
 add-j c = omega arith
@@ -65,13 +82,20 @@ loop-less c = omega arith
 
 loop-again : tie.Need-loop-again Inv-loop μ-loop
 loop-again c =
-    let s = c .before .before .before .before .before .before .before .before .before in
-    let l = c .before .before .before .before .before .loop in
-    let e = c .before .before .evaluate-at in
-    let last = e .last .1 .1 .1 .1 .1 .1 .0 in (
-      block-start (length (now (s .args .columns))) (l .j) (l .at) (l .at + length (now (s .args .columns))) (l .inv .0) refl,
-      same-len-mid (l .at) (l .at + length (now (s .args .columns)) - l .at) (l .rows) last (e .kept .1 .1 .1 .1 .1 .1 .0) ∙ l .inv .1,
-      rows-turn (s .args .q) (now (s .args .columns)) (s .args .n) (now (s .args .grid)) (l .rows) last (l .j) (l .at) (l .inv .2) (l .inv .0) (fits (c .before .before .before .before)) (e .ensures),
+    let s = c .before .before .before .before .before .before .before .before .before .before .before .before .before .before .before .before in
+    let l = c .before .before .before .before .before .before .before .before .before .loop in
+    let places = c .before .before .before .before .before .before .before .before .before .before .before .copy in
+    let terms = c .before .before .before .before .before .before .before .terms in
+    let row = c .before .before .before .before .before .evaluate in
+    let e = c .before .before .copy2 in
+    let last = e .last .1 .1 .0 in (
+      block-start 16 (l .j) (l .at) (l .at + 16) (l .inv .0) refl,
+      same-len-mid (l .at) (l .at + 16 - l .at) (l .rows) last (e .kept .1 .1 .0) ∙ l .inv .1,
+      rows-turn (s .args .q) (now (s .args .columns)) (s .args .n) (now (s .args .grid)) (l .rows) (places .last .1 .1 .0) (row .result) last (l .j)
+          (terms .result) (l .at) (l .inv .2) (l .inv .0)
+          (fits (c .before .before .before .before .before .before .before .before))
+          (places-at (s .args .q) (now (s .args .columns)) (s .pre .0 .0 .few) (places .last .1 .1 .0) (places .ensures))
+          (terms .ensures) (row .ensures) (e .ensures),
     )
 
 same-length : tie.Need-same-length Inv-loop μ-loop
@@ -79,7 +103,7 @@ same-length c = c .before .loop .inv .1
 
 returns : tie.Need-returns Inv-loop μ-loop
 returns c =
-    let x = c .before .before .before .before .before .args in
+    let x = c .before .before .before .before .before .before .before .before .args in
     let l = c .before .loop in
     rows-all (x .q) (now (x .columns)) (x .n) (now (x .grid)) (l .rows) (l .j) (c .loop-test .left) (l .inv .2)
 
@@ -89,12 +113,17 @@ evaluate-rows-spec =
     (tie.spec
     Inv-loop
     μ-loop
+    slice-aggregate-copy
+    copy-requires
     loop-holds
     add-end
-    sub-evaluate-at
-    part-evaluate-at-start
-    part-evaluate-at-end
-    evaluate-at-requires
+    terms-requires
+    evaluate-requires
+    slice-aggregate-copy-2
+    sub-copy
+    part-copy-start
+    part-copy-end
+    copy-requires-2
     add-j
     loop-less
     loop-again

@@ -1,7 +1,8 @@
 -- `code::encoding::write_word` meets its contract: the two stages leave the word.
 -- Assumes nothing.
 use mathlib.Core.Path.{refl, ap}
-use Prim.Native.Nat.{ℕ, suc, _+_}
+use Prim.Native.Nat.{ℕ, suc, _+_, _*_, _<_}
+use native.Mathlib.Nat.{mul-le-mul-left}
 use native.Mathlib.Omega.{arith}
 use denote.Ref.{now}
 use lib.ListN.{length}
@@ -29,7 +30,9 @@ divide-requires c κs = c .before .before .before .before .before .before .pre .
 add-n : tie.Need-add-n
 add-n c =
     let s = c .before .before .before .before .before .before .before .before in
-    omega (arith, s .pre .few, c .before .divide .ensures .0, rows-fit (s .args .q) (s .args .m) (length (now (s .args .columns))) (omega (arith, sizes (s .args .q) (s .pre .over .curve) .low)) (s .pre .order))
+    let pos : 0 < s .args .q = omega (arith, sizes (s .args .q) (s .pre .over .curve) .low) in
+    let some = rows-fit (s .args .q) (s .args .m) (length (now (s .args .columns))) pos (s .pre .order) in
+    omega (arith, s .pre .few, c .before .divide .ensures .0, some)
 
 slice-aggregate-evaluate-rows : tie.Need-slice-aggregate-evaluate-rows
 slice-aggregate-evaluate-rows c = search needs
@@ -43,17 +46,23 @@ evaluate-rows-requires c κs =
     let q = s .args .q in
     let h = s .pre in
     let e = c .before .before .before .before .before .scatter in
-    let short = columns-short q (now (s .args .columns)) (h .over) (h .few) in (
-      record {
-        over = h .over;
-        few = h .few;
-        long = omega (arith, e .kept .1 .1 .1 .0);
-        symbols = rw (e .ensures) (symbols-scatter q 64 (now (s .args .message)) (h .symbols) (suc (s .args .m)));
-        room = omega arith;
-      },
-      omega arith,
-      omega (arith, c .before .before .before .divide .ensures .0, rows-fit q (s .args .m) (length (now (s .args .columns))) (omega (arith, sizes q (h .over .curve) .low)) (h .order)),
-      below-zeros (fieldOf q .size) 64 (zero-lt (fieldOf q)),
+    let z = sizes q (h .over .curve) in
+    let some = rows-fit q (s .args .m) (length (now (s .args .columns))) (omega (arith, z .low)) (h .order) in
+    let rows = mul-le-mul-left q some in
+    let d = ap (λ (x : ℕ). q * (x + 1)) (c .before .before .before .divide .ensures .0) in (
+      (
+        record {
+          over = h .over;
+          few = h .few;
+          symbols = rw (e .ensures) (symbols-scatter q 64 (now (s .args .message)) (h .symbols) (suc (s .args .m)));
+        },
+        below-zeros (fieldOf q .size) 64 (zero-lt (fieldOf q)),
+      ),
+      (
+        omega arith,
+        omega (arith, e .kept .1 .1 .1 .0, columns-short q (now (s .args .columns)) (h .over) (h .few), rows, d),
+        omega (arith, z .high),
+      ),
     )
 
 slice-aggregate-evaluate-columns : tie.Need-slice-aggregate-evaluate-columns
@@ -63,27 +72,24 @@ evaluate-columns-requires : tie.Need-evaluate-columns-requires
 evaluate-columns-requires c κs =
     let s = c .before .before .before .before .before .before .before .before .before .before .before .before .before .before in
     let h = s .pre in
-    let e = c .before .before .before .evaluate-rows in
-    let short = columns-short (s .args .q) (now (s .args .columns)) (h .over) (h .few) in
-    record {
-      over = h .over;
-      few = h .few;
-      long = omega (arith, e .kept .1 .1 .1 .1 .0);
-      symbols = e .ensures .symbols;
-      room = omega (arith, h .room);
-    }
+    let e = c .before .before .before .evaluate-rows in (
+      record { over = h .over; few = h .few; symbols = e .ensures .symbols },
+      omega (arith, e .kept .1 .1 .1 .1 .0, sizes (s .args .q) (h .over .curve) .high),
+      omega (arith, h .room),
+    )
 
 same-length : tie.Need-same-length
 same-length c = search needs
 
 returns : tie.Need-returns
 returns c =
-    let s = c .before .before .before .before .before .before .before .before .before .before .before .before .before .before .before .before .before in
+    let last = c .before .before .before .before .before .before .before .before .before .before in
+    let grid = last .before .before .scatter in
+    let s = last .before .before .before .before .before .before .before in
     let e = c .before .before .evaluate-columns in
     let r = c .before .before .before .before .before .before .evaluate-rows in
-    let d = c .before .before .before .before .before .before .before .before .before .before .divide .ensures .0 in
     stages (s .args .q) (now (s .args .columns)) (s .args .m) (now (s .args .message)) (now (s .args .word)) (s .pre) _ _ _ _
-    (ap (λ (x : ℕ). x + 1) d) (c .before .before .before .before .before .before .before .before .before .before .before .before .scatter .ensures) (r .ensures) (e .kept .1 .1 .1 .0) (e .ensures)
+    (ap (λ (x : ℕ). x + 1) (last .divide .ensures .0)) (grid .ensures) (r .ensures) (e .kept .1 .1 .1 .0) (e .ensures)
 
 pub write-word-spec : {M : Type 1} → statement M
 write-word-spec =

@@ -5,10 +5,10 @@ use Prim.Native.Nat.{ℕ, _-_, _≤_, _<_}
 use native.Mathlib.Omega.{arith}
 use denote.Ref.{now}
 use lib.ListN.{length, getD, length-set}
-use Rattle.poly.specs.Ranges.{writes}
+use Rattle.poly.specs.inner.Ranges.{writes}
 use Rattle.poly.proofs.Writes.{writes-turn, writes-end}
 use Rattle.code.specs.Terms.{size}
-use Rattle.code.specs.Grid.{entriesOf, listed}
+use Rattle.code.specs.inner.Grid.{entriesOf, listed}
 use Rattle.code.proofs.Weights.{curve-pos}
 use Rattle.code.proofs.GridEntries.{gather-written, entry-at-most}
 use Rattle.code.proofs.grid.gather.Statement.{statement}

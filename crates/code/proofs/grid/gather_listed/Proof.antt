@@ -5,9 +5,9 @@ use Prim.Native.Nat.{_-_, _≤_}
 use native.Mathlib.Omega.{arith}
 use denote.Ref.{now}
 use lib.ListN.{length}
-use Rattle.poly.specs.Ranges.{writes}
+use Rattle.poly.specs.inner.Ranges.{writes}
 use Rattle.poly.proofs.Writes.{length-writes, writes-turn, writes-end}
-use Rattle.code.specs.Grid.{listed}
+use Rattle.code.specs.inner.Grid.{listed}
 use Rattle.code.proofs.grid.gather_listed.Statement.{statement}
 use Rattle.code.proofs.grid.gather_listed.Tie as tie
 

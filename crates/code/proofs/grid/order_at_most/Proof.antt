@@ -9,10 +9,10 @@ use borrow.Author.Needs.{needs}
 use denote.Ref.{now}
 use lib.ListN.{length}
 use Rattle.field.specs.declared.curve.Curve.{Curve}
-use Rattle.poly.specs.Ranges.{part}
+use Rattle.poly.specs.inner.Ranges.{part}
 use Rattle.poly.proofs.Parts.{length-part}
-use Rattle.code.specs.Grid.{orderAtMost}
-use Rattle.code.specs.Highest.{Highest}
+use Rattle.code.specs.inner.Grid.{orderAtMost}
+use Rattle.code.specs.inner.Highest.{Highest}
 use Rattle.code.proofs.Order.{within-zero, within-start, within-less, within-rest, within-turn, within-stop}
 use Rattle.code.proofs.GridEntries.{split-sum}
 use Rattle.code.proofs.Weights.{curve-pos, small-weight}

@@ -6,7 +6,7 @@ use native.Mathlib.Nat.{le-antisymm}
 use native.Mathlib.Omega.{arith}
 use denote.Ref.{now}
 use lib.ListN.{length, length-set}
-use Rattle.code.specs.Grid.{entriesOf}
+use Rattle.code.specs.inner.Grid.{entriesOf}
 use Rattle.code.specs.Terms.{size}
 use Rattle.code.proofs.Weights.{curve-pos}
 use Rattle.code.proofs.GridEntries.{laid, laid-none, laid-turn, laid-all, entry-at-most}

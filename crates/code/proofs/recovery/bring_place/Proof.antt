@@ -8,8 +8,8 @@ use denote.Ref.{now}
 use lib.ListN.{length, getD}
 use Rattle.field.proofs.Fields.{fieldOf}
 use Rattle.field.proofs.Curves.{sizes}
-use Rattle.poly.specs.Linear.{entry}
-use Rattle.poly.specs.Systems.{WellFormed, Equation, Brought}
+use Rattle.poly.specs.inner.Linear.{entry}
+use Rattle.poly.specs.inner.Systems.{WellFormed, Equation, Brought}
 use Rattle.code.specs.Points.{ysOf}
 use Rattle.code.specs.Terms.{size}
 use Rattle.code.proofs.Stages.{ys-below}

@@ -7,9 +7,9 @@ use denote.Ref.{now}
 use lib.ListN.{length, getD}
 use Rattle.field.proofs.Fields.{fieldOf}
 use Rattle.poly.proofs.Solutions.{rank-le}
-use Rattle.poly.specs.Systems.{flat}
+use Rattle.poly.specs.inner.Systems.{flat}
 use Rattle.code.specs.Terms.{size}
-use Rattle.code.specs.Recovering.{Collected, Advanced, Ended}
+use Rattle.code.specs.inner.Recovering.{Collected, Advanced, Ended}
 use Rattle.code.proofs.GridEntries.{length-entries}
 use Rattle.code.proofs.Collecting.{collected-none, collected-more, ended-clash, ended-full, ended-all}
 use mathlib.Core.Bool.{Bool, true, false}

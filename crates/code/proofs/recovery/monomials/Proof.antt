@@ -8,9 +8,9 @@ use borrow.Rule.Slice.PartMut.{same-len-mid, mid-len}
 use denote.Ref.{now}
 use lib.ListN.{length}
 use Rattle.field.proofs.Curves.{sizes}
-use Rattle.poly.specs.Ranges.{Blocks}
+use Rattle.poly.specs.inner.Ranges.{Blocks}
 use Rattle.poly.proofs.Blocks.{blocks-none, block-start, block-fits}
-use Rattle.code.specs.Recovering.{termAt}
+use Rattle.code.specs.inner.Recovering.{termAt}
 use Rattle.code.proofs.Equations.{RowAt, row-start, row-turn, row-stored}
 use Rattle.code.proofs.recovery.monomials.Statement.{statement}
 use Rattle.code.proofs.recovery.monomials.Tie as tie

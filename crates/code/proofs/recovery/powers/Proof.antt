@@ -8,7 +8,7 @@ use lib.ListN.{length, length-set}
 use Rattle.field.specs.Power.{power}
 use Rattle.field.proofs.Fields.{fieldOf}
 use Rattle.field.proofs.Powers.{power-zero, power-next, power-lt}
-use Rattle.poly.specs.Ranges.{writes}
+use Rattle.poly.specs.inner.Ranges.{writes}
 use Rattle.poly.proofs.Writes.{writes-turn, writes-end}
 use Rattle.code.proofs.recovery.powers.Statement.{statement}
 use Rattle.code.proofs.recovery.powers.Tie as tie

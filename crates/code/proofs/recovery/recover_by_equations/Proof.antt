@@ -7,14 +7,14 @@ use native.Mathlib.Omega.{arith}
 use denote.Ref.{now}
 use Rattle.field.specs.declared.outcome.Outcome.the-variants.{NoMessage, Several}
 use Rattle.field.proofs.Fields.{fieldOf}
-use Rattle.poly.specs.Systems.{flat}
+use Rattle.poly.specs.inner.Systems.{flat}
 use Rattle.poly.proofs.Entries.{getD-zeros}
 use Rattle.poly.proofs.WellFormed.{zeros-formed}
 use Rattle.poly.proofs.Solutions.{rank-le, rank-full}
 use Rattle.code.specs.Terms.{size}
 use Rattle.code.specs.Answers.{answered}
-use Rattle.code.specs.Recovered.{Reading, told}
-use Rattle.code.specs.Recovering.{Ended, Finished}
+use Rattle.code.specs.Recovered.{Reading, answerOf}
+use Rattle.code.specs.inner.Recovering.{Ended, Finished}
 use Rattle.code.proofs.ReadingSystems.{clash-nothing, missing-several, solution-alone, solution-not}
 use borrow.Author.Needs.{needs}
 use Rattle.code.proofs.recovery.recover_by_equations.Statement.{statement}
@@ -39,11 +39,11 @@ collect-requires c κs =
     ((s .pre .0, s .pre .1), (zeros-formed (fieldOf (x .q)) 64 (size (x .q) (x .m)) (s .pre .3), getD-zeros 4096))
 
 returns : tie.Need-returns
-unfolding told
+unfolding answerOf
 returns c =
     let s = c .before .before .before .before .before .before .before in
     let x = s .args in
-    ap (λ (r : Reading). told r (now (x .message))) (clash-nothing (x .q) (now (x .columns)) (x .m) (now (x .word)) (s .pre .0)
+    ap (λ (r : Reading). answerOf r (now (x .message))) (clash-nothing (x .q) (now (x .columns)) (x .m) (now (x .word)) (s .pre .0)
     (c .before .before .collect .last .1 .1 .1 .1 .1 .0) (c .before .before .collect .result .rank)
     (ended (c .before .before) true (c .if1 .taken)))
 
@@ -54,12 +54,12 @@ cast-t13 : tie.Need-cast-t13
 cast-t13 c = let s = c .before .before .before .before .before .before .before .before .before .before in omega (arith, s .pre .1, s .pre .3)
 
 returns-2 : tie.Need-returns-2
-unfolding told
+unfolding answerOf
 returns-2 c =
     let s = c .before .before .before .before .before .before .before .before .before .before in
     let x = s .args in
     let k = s .pre .1 in
-    ap (λ (r : Reading). told r (now (x .message)))
+    ap (λ (r : Reading). answerOf r (now (x .message)))
     (missing-several (x .q) (now (x .columns)) (x .m) (now (x .word)) (s .pre .0) _ _
     (ended (c .before .before .before .before .before) false (c .before .before .before .if1 .left)) (omega (arith, c .before .if2 .taken, k)))
     ∙ ap (λ (n : ℕ). answered (Several (n - c .before .before .before .before .before .collect .result .rank)) (now (x .message))) (sym k)
@@ -85,7 +85,7 @@ same-length : tie.Need-same-length
 same-length c = search needs
 
 returns-3 : tie.Need-returns-3
-unfolding told
+unfolding answerOf
 returns-3 c =
     let s = c .before .before .before .before .before .before .before .before .before .before .before .before .before .before .before in
     let x = s .args in
@@ -94,7 +94,7 @@ returns-3 c =
     let e = subst (λ (b : Bool). Finished (x .q) (now (x .columns)) (x .m) (now (x .word))
     (c .before .before .before .before .before .before .before .before .before .before .collect .last .1 .1 .1 .1 .1 .0)
     (now (x .message)) after b) (c .if3 .taken) (f .ensures) in
-    ap (λ (r : Reading). told r (now (x .message)))
+    ap (λ (r : Reading). answerOf r (now (x .message)))
     (solution-alone (x .q) (now (x .columns)) (x .m) (now (x .word)) (s .pre .0) _ _
     (ended (c .before .before .before .before .before .before .before .before .before .before) false
     (c .before .before .before .before .before .before .before .before .if1 .left)) (now (x .message)) after e)
@@ -103,7 +103,7 @@ same-length-2 : tie.Need-same-length-2
 same-length-2 c = search needs
 
 returns-4 : tie.Need-returns-4
-unfolding told
+unfolding answerOf
 returns-4 c =
     let s = c .before .before .before .before .before .before .before .before .before .before .before .before .before .before .before in
     let x = s .args in
@@ -112,7 +112,7 @@ returns-4 c =
     let e = subst (λ (b : Bool). Finished (x .q) (now (x .columns)) (x .m) (now (x .word))
     (c .before .before .before .before .before .before .before .before .before .before .collect .last .1 .1 .1 .1 .1 .0)
     (now (x .message)) after b) (c .if3 .left) (f .ensures) in
-    ap (λ (r : Reading). told r (now (x .message)))
+    ap (λ (r : Reading). answerOf r (now (x .message)))
     (solution-not (x .q) (now (x .columns)) (x .m) (now (x .word)) (s .pre .0) _ _
     (ended (c .before .before .before .before .before .before .before .before .before .before) false
     (c .before .before .before .before .before .before .before .before .if1 .left)) (now (x .message)) after e)

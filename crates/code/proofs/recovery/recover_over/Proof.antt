@@ -13,20 +13,20 @@ use Rattle.field.proofs.Curves.{sizes}
 use Rattle.code.specs.Terms.{size}
 use Rattle.code.specs.Word.{wordOf}
 use Rattle.code.specs.Answers.{answered}
-use Rattle.code.specs.Recovered.{reading, told}
-use Rattle.code.specs.Readable.{Readable}
+use Rattle.code.specs.Recovered.{reading, answerOf}
+use Rattle.code.specs.inner.Readable.{Readable}
 use Rattle.field.proofs.Values.{all-good}
 use Rattle.code.proofs.FullColumns.{accepted-symbols}
-use Rattle.code.proofs.WordGrids.{whole-told}
+use Rattle.code.proofs.WordGrids.{whole-answer}
 use Rattle.code.proofs.recovery.recover_over.Statement.{statement}
 use Rattle.code.proofs.recovery.recover_over.Tie as tie
 
 -- where the search for a value that is no symbol finds none
-whole : (c : tie.Then1) → let x = c .before .before .before .before .before .before .args in
+whole : (c : tie.Then1) → let x = c .before .before .before .before .before .before .before .args in
     Readable (x .q) (now (x .columns)) (x .m) (now (x .word)) (now (x .message))
 whole c =
-    let x = c .before .before .before .before .before .before .args in
-    let h = c .before .before .before .before .before .before .pre in
+    let x = c .before .before .before .before .before .before .before .args in
+    let h = c .before .before .before .before .before .before .before .pre .0 in
     let b = h .0 in
     let none : c .before .first-bad .result ≡ firstBad (badValue false (x .q * x .q)) (now (x .word)) =
     c .before .first-bad .ensures ∙ ap (λ (v : Curve). firstBad (badValue false (v .symbols)) (now (x .word))) (c .before .before .at .ensures) in
@@ -46,26 +46,26 @@ whole c =
     }
 
 at-requires : tie.Need-at-requires
-at-requires c κs = c .before .before .before .pre .0 .over .curve
+at-requires c κs = c .before .before .before .before .pre .0 .0 .over .curve
 
 first-bad-requires : tie.Need-first-bad-requires
 first-bad-requires c κs = search needs
 
 read-word-requires : tie.Need-read-word-requires
-read-word-requires c κs = whole (c .before)
+read-word-requires c κs = (whole (c .before), c .before .before .before .before .before .before .before .before .pre .1)
 
 same-length : tie.Need-same-length
 same-length c = search needs
 
 returns : tie.Need-returns
 returns c =
-    let x = c .before .before .before .before .before .before .before .before .before .before .args in
+    let x = c .before .before .before .before .before .before .before .before .before .before .before .args in
     let r = c .before .before .read-word in
     let w = whole (c .before .before .before .before) in
-    subst (λ (Q : ℕ). told (reading Q (size (x .q) (x .m)) (wordOf (x .q) (now (x .columns)) (x .m)) (now (x .word))) (now (x .message))
-    ≡ answered (r .result) (r .last .1 .1 .1 .1 .0))
+    subst (λ (Q : ℕ). answerOf (reading Q (size (x .q) (x .m)) (wordOf (x .q) (now (x .columns)) (x .m)) (now (x .word))) (now (x .message))
+    ≡ answered (r .result) (r .last .1 .1 .1 .1 .1 .0))
     (sym (sizes (x .q) (w .whole .over .curve) .size))
-    (whole-told (x .q) (now (x .columns)) (now (x .word)) (w .whole) (x .m) (w .order) (now (x .message)) ∙ r .ensures)
+    (whole-answer (x .q) (now (x .columns)) (now (x .word)) (w .whole) (x .m) (w .order) (now (x .message)) ∙ r .ensures)
 
 recover-by-equations-requires : tie.Need-recover-by-equations-requires
 recover-by-equations-requires c κs = search needs

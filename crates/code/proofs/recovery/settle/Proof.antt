@@ -5,7 +5,7 @@ use Prim.Native.Nat.{ℕ}
 use native.Mathlib.Omega.{arith}
 use denote.Ref.{now}
 use Rattle.field.proofs.Fields.{fieldOf}
-use Rattle.poly.specs.Systems.{flat, Full, WellFormed, Solves}
+use Rattle.poly.specs.inner.Systems.{flat, Full, WellFormed, Solves}
 use Rattle.code.specs.Terms.{size}
 use Rattle.code.specs.Fitting.{agrees, fits}
 use Rattle.code.proofs.Collecting.{solution-below}

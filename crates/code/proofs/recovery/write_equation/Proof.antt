@@ -9,8 +9,8 @@ use borrow.Author.Needs.{needs}
 use denote.Ref.{now}
 use lib.ListN.{length, set}
 use Rattle.field.proofs.Curves.{sizes}
-use Rattle.poly.specs.Ranges.{Blocks}
-use Rattle.code.specs.Recovering.{termAt, EquationAt}
+use Rattle.poly.specs.inner.Ranges.{Blocks}
+use Rattle.code.specs.inner.Recovering.{termAt, EquationAt}
 use Rattle.code.proofs.GridEntries.{length-entries}
 use Rattle.code.proofs.Equations.{rows-room, equation-written, entries-fit}
 use Rattle.code.proofs.recovery.write_equation.Statement.{statement}

@@ -5,10 +5,10 @@ use Prim.Native.Nat.{_-_, _≤_, _<_}
 use native.Mathlib.Omega.{arith}
 use denote.Ref.{now}
 use lib.ListN.{length, getD}
-use Rattle.poly.specs.Ranges.{writes}
+use Rattle.poly.specs.inner.Ranges.{writes}
 use Rattle.poly.proofs.Writes.{length-writes, writes-turn, writes-end}
 use Rattle.code.specs.Terms.{size}
-use Rattle.code.specs.Grid.{entriesOf}
+use Rattle.code.specs.inner.Grid.{entriesOf}
 use Rattle.code.proofs.Weights.{curve-pos}
 use Rattle.code.proofs.GridEntries.{entry-at-most}
 use Rattle.code.proofs.term.entries.Statement.{statement}

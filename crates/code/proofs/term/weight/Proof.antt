@@ -5,7 +5,7 @@ use Prim.Native.Nat.{ℕ, _+_}
 use native.Mathlib.Omega.{arith}
 use borrow.Author.Needs.{needs}
 use Rattle.field.specs.declared.curve.Curve.{Curve}
-use Rattle.code.specs.Grid.{WeightOfTerm}
+use Rattle.code.specs.inner.Grid.{WeightOfTerm}
 use Rattle.code.proofs.Weights.{curve-pos, genus-small, high-weight}
 use Rattle.code.proofs.term.weight.Statement.{statement}
 use Rattle.code.proofs.term.weight.Tie as tie

@@ -1,87 +1,161 @@
--- `code::unencoding::interpolate_in_y` meets its contract: the factors are the y of the columns, the values the word.
+-- `code::unencoding::interpolate_in_y` meets its contract: each turn interpolates one column.
 -- Assumes nothing.
-use mathlib.Core.Path.{_≡_, sym, ap, _∙_}
-use Prim.Native.Nat.{_≤_}
+use mathlib.Core.Path.{_≡_, refl, sym, _∙_}
+use Prim.Native.Nat.{_+_, _-_, _*_, _≤_}
+use native.Mathlib.Nat.{mul-zero}
 use native.Mathlib.Omega.{arith}
+use borrow.Rule.Slice.PartMut.{same-len-mid}
 use denote.Ref.{now}
-use lib.ListN.{length, take}
-use Rattle.poly.proofs.Entries.{zeros}
-use Rattle.code.proofs.Stages.{columns-short}
-use Rattle.code.proofs.InverseStages.{copy-front, front-long, front-fits, front-is, front-count, y-given, in-y}
+use lib.ListN.{length, getD}
+use Rattle.poly.proofs.Blocks.{block-start, block-fits}
+use Rattle.code.proofs.ColumnInterpolation.{InterpolatedSoFar, so-far-none, so-far-all, lanes-fit, column-given, so-far-turn}
 use borrow.Author.Needs.{needs}
 use Rattle.code.proofs.unencoding.interpolate_in_y.Statement.{statement}
 use Rattle.code.proofs.unencoding.interpolate_in_y.Tie as tie
 
--- the word is short
-short : (s : tie.Start) → length (now (s .args .word)) ≤ 64
-short s = omega (arith, s .pre .0 .long, columns-short (s .args .q) (now (s .args .columns)) (s .pre .0 .over) (s .pre .0 .few))
+abbrev Inv-loop : tie.InvT-loop
+Inv-loop q columns word work₀ width all t₀ at₀ row₀ work t at row =
+    (length work ≡ length work₀) × (at ≡ q * t) × (row ≡ 16 * t) × InterpolatedSoFar q columns word work t
 
--- the copy of the word
-values-are : (c : tie.After-values2) → let w = now (c .before .before .before .before .before .before .before .before .before .args .word) in take (length w) (c .before .copy .last .1 .1 .0) ≡ w
-values-are c = let w = now (c .before .before .before .before .before .before .before .before .before .args .word) in ap (take (length w)) (c .before .copy .ensures) ∙ copy-front w (zeros 64) (short (c .before .before .before .before .before .before .before .before .before))
+abbrev μ-loop : tie.MeasureT-loop
+μ-loop q columns word work₀ width all t₀ at₀ row₀ work t at row = length columns - t
 
-array-borrow-prefix-factors : tie.Need-array-borrow-prefix-factors
-array-borrow-prefix-factors c = short (c .before .before .before)
+-- the column's part of the word, and its sixteen numbers of work
+word-fits : (c : tie.In-loop Inv-loop μ-loop) → let x = c .before .before .before .before .before .before .args in
+    c .before .loop .at + x .q ≤ length (now (x .word))
+word-fits c =
+    let s = c .before .before .before .before .before .before in
+    let l = c .before .loop in
+    omega (arith, l .inv .1, s .pre .0 .long, block-fits (s .args .q) (l .t) (length (now (s .args .columns))) (c .loop-test .taken))
 
-slice-aggregate-ys-list : tie.Need-slice-aggregate-ys-list
-slice-aggregate-ys-list c = sym (front-long _ (short (c .before .before .before .before)))
+row-fits : (c : tie.In-loop Inv-loop μ-loop) → c .before .loop .row + 16 ≤ length (c .before .loop .work)
+row-fits c =
+    let s = c .before .before .before .before .before .before in
+    let l = c .before .loop in
+    omega (arith, l .inv .0, l .inv .2, s .pre .1, block-fits 16 (l .t) (length (now (s .args .columns))) (c .loop-test .taken))
 
-ys-list-requires : tie.Need-ys-list-requires
-ys-list-requires c κs =
+-- its y are within the table
+ys-fit : (c : tie.In-loop Inv-loop μ-loop) → let x = c .before .before .before .before .before .before .args in
+    x .q * getD (now (x .columns)) (c .before .loop .t) 0 + 16 ≤ 80
+ys-fit c =
+    let s = c .before .before .before .before .before .before in
+    lanes-fit (s .args .q) (now (s .args .columns)) (now (s .args .word)) (s .pre .0) _
+    (c .before .before .padded-ys .ensures) (c .before .loop .t) (c .loop-test .taken)
+
+padded-ys-requires : tie.Need-padded-ys-requires Inv-loop μ-loop
+padded-ys-requires c κs = c .before .before .before .pre .0 .over .curve
+
+loop-holds : tie.Need-loop-holds Inv-loop μ-loop
+loop-holds c =
     let s = c .before .before .before .before in
-    (s .pre .0 .over, omega (arith, s .pre .0 .long, front-long (length (now (s .args .word))) (short s)))
-
-slice-aggregate-copy : tie.Need-slice-aggregate-copy
-slice-aggregate-copy c = search needs
-
-copy-requires : tie.Need-copy-requires
-copy-requires c κs = (omega arith, short (c .before .before .before .before .before .before .before))
-
-array-share-prefix-factors : tie.Need-array-share-prefix-factors
-array-share-prefix-factors c = front-fits _ (short (c .before .before .before .before .before .before .before .before .before)) (c .before .before .before .before .ys-list .last .1 .1 .0) (c .before .before .before .before .ys-list .kept .1 .1 .0)
-
-slice-aggregate-interpolate-groups : tie.Need-slice-aggregate-interpolate-groups
-slice-aggregate-interpolate-groups c = front-count _ (short (c .before .before .before .before .before .before .before .before .before .before)) (c .before .before .before .before .before .ys-list .last .1 .1 .0) (c .before .before .before .before .before .ys-list .kept .1 .1 .0)
-
-array-borrow-prefix-values : tie.Need-array-borrow-prefix-values
-array-borrow-prefix-values c = omega (arith, c .before .before .copy .kept .1 .1 .0, short (c .before .before .before .before .before .before .before .before .before .before))
-
-slice-aggregate-interpolate-groups-2 : tie.Need-slice-aggregate-interpolate-groups-2
-slice-aggregate-interpolate-groups-2 c = sym (ap length (values-are (c .before .before)))
-
-interpolate-groups-requires : tie.Need-interpolate-groups-requires
-interpolate-groups-requires c κs =
-    let s = c .before .before .before .before .before .before .before .before .before .before .before .before in
     let x = s .args in
-    let e = c .before .before .before .before .before .before .before .ys-list in
-    y-given (x .q) (now (x .columns)) (now (x .word)) (s .pre .0) (e .last .1 .1 .0) (e .kept .1 .1 .0 ∙ front-long _ (short s)) (e .ensures) _ _ (now (x .rows))
-    (front-is _ (short s) (e .last .1 .1 .0) (e .kept .1 .1 .0)) (values-are (c .before .before .before)) (s .pre .1)
+    (refl, sym (mul-zero (x .q)), refl, so-far-none (x .q) (now (x .columns)) (now (x .word)) (s .pre .0) (now (x .work)) (s .pre .2))
 
-same-length : tie.Need-same-length
-same-length c = search needs
+slice-aggregate-take : tie.Need-slice-aggregate-take Inv-loop μ-loop
+slice-aggregate-take c = search needs
 
-returns : tie.Need-returns
+shared-slice-read-take : tie.Need-shared-slice-read-take Inv-loop μ-loop
+shared-slice-read-take c = omega arith
+
+cast-take : tie.Need-cast-take Inv-loop μ-loop
+cast-take c = omega (arith, c .shared-slice-known3 .given (c .before .before .before .loop .t))
+
+mul-take : tie.Need-mul-take Inv-loop μ-loop
+mul-take c = omega (arith, ys-fit (c .before .before))
+
+take-requires : tie.Need-take-requires Inv-loop μ-loop
+take-requires c κs = omega (arith, ys-fit (c .before .before), c .before .before .before .before .padded-ys .ensures .long)
+
+add-end : tie.Need-add-end Inv-loop μ-loop
+add-end c = omega (arith, word-fits (c .before .before .before))
+
+add-to : tie.Need-add-to Inv-loop μ-loop
+add-to c = omega (arith, row-fits (c .before .before .before))
+
+sub-interpolate : tie.Need-sub-interpolate Inv-loop μ-loop
+sub-interpolate c = omega arith
+
+part-interpolate-start : tie.Need-part-interpolate-start Inv-loop μ-loop
+part-interpolate-start c = omega arith
+
+part-interpolate-end : tie.Need-part-interpolate-end Inv-loop μ-loop
+part-interpolate-end c = word-fits (c .before .before .before .before)
+
+sub-interpolate-2 : tie.Need-sub-interpolate-2 Inv-loop μ-loop
+sub-interpolate-2 c = omega arith
+
+part-interpolate-start-2 : tie.Need-part-interpolate-start-2 Inv-loop μ-loop
+part-interpolate-start-2 c = omega arith
+
+part-interpolate-end-2 : tie.Need-part-interpolate-end-2 Inv-loop μ-loop
+part-interpolate-end-2 c = row-fits (c .before .before .before .before .before)
+
+interpolate-requires : tie.Need-interpolate-requires Inv-loop μ-loop
+interpolate-requires c κs =
+    let d = c .before .before .before .before .before .before in
+    let s = d .before .before .before .before .before .before in
+    let x = s .args in
+    let l = d .before .loop in
+    column-given (x .q) (now (x .columns)) (now (x .word)) (s .pre .0) _ (d .before .before .padded-ys .ensures) (l .t) (d .loop-test .taken) _
+    (c .before .before .before .take .ensures)
+    (l .work) (l .at) (l .row) (l .inv .1) (l .inv .2) (omega (arith, l .inv .0, s .pre .1)) (l .inv .3)
+
+add-t : tie.Need-add-t Inv-loop μ-loop
+add-t c = omega arith
+
+loop-less : tie.Need-loop-less Inv-loop μ-loop
+loop-less c = omega arith
+
+loop-again : tie.Need-loop-again Inv-loop μ-loop
+loop-again c =
+    let d = c .before .before .before .before .before .before .before .before .before in
+    let s = d .before .before .before .before .before .before in
+    let x = s .args in
+    let l = d .before .loop in
+    let e = c .before .before .interpolate in
+    let last = e .last .1 .1 .1 .0 in (
+      same-len-mid (l .row) (l .row + 16 - l .row) (l .work) last (e .kept .1 .1 .1 .0) ∙ l .inv .0,
+      block-start (x .q) (l .t) (l .at) (l .at + x .q) (l .inv .1) refl,
+      block-start 16 (l .t) (l .row) (l .row + 16) (l .inv .2) refl,
+      so-far-turn (x .q) (now (x .columns)) (now (x .word)) (s .pre .0) _ (d .before .before .padded-ys .ensures) (l .t) (d .loop-test .taken) _
+          (c .before .before .before .before .before .before .take .ensures) (l .work) (l .at) (l .row) (l .inv .1) (l .inv .2)
+          (omega (arith, l .inv .0, s .pre .1)) (l .inv .3) last (e .kept .1 .1 .1 .0) (e .ensures),
+    )
+
+same-length : tie.Need-same-length Inv-loop μ-loop
+same-length c = c .before .loop .inv .0
+
+returns : tie.Need-returns Inv-loop μ-loop
 returns c =
-    let s = c .before .before .before .before .before .before .before .before .before .before .before .before .before .before .before .before in
+    let s = c .before .before .before .before .before .before in
     let x = s .args in
-    let e = c .before .before .before .before .before .before .before .before .before .before .before .ys-list in
-    let g = c .before .before .before .interpolate-groups in
-    in-y (x .q) (now (x .columns)) (now (x .word)) (s .pre .0) (e .last .1 .1 .0) (e .kept .1 .1 .0 ∙ front-long _ (short s)) (e .ensures) _ _ (g .last .1 .1 .1 .1 .1 .0)
-    (front-is _ (short s) (e .last .1 .1 .0) (e .kept .1 .1 .0)) (values-are (c .before .before .before .before .before .before .before)) (g .ensures)
+    let l = c .before .loop in
+    so-far-all (x .q) (now (x .columns)) (now (x .word)) (s .pre .0) (l .work) (l .t) (c .loop-test .left) (l .inv .3)
 
 pub interpolate-in-y-spec : {M : Type 1} → statement M
 interpolate-in-y-spec =
     tie.close
     (tie.spec
-    array-borrow-prefix-factors
-    slice-aggregate-ys-list
-    ys-list-requires
-    slice-aggregate-copy
-    copy-requires
-    array-share-prefix-factors
-    slice-aggregate-interpolate-groups
-    array-borrow-prefix-values
-    slice-aggregate-interpolate-groups-2
-    interpolate-groups-requires
+    Inv-loop
+    μ-loop
+    padded-ys-requires
+    loop-holds
+    slice-aggregate-take
+    shared-slice-read-take
+    cast-take
+    mul-take
+    take-requires
+    add-end
+    add-to
+    sub-interpolate
+    part-interpolate-start
+    part-interpolate-end
+    sub-interpolate-2
+    part-interpolate-start-2
+    part-interpolate-end-2
+    interpolate-requires
+    add-t
+    loop-less
+    loop-again
     same-length
     returns)

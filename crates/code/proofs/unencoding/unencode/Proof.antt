@@ -11,9 +11,11 @@ use lib.ListN.{length, take}
 use Rattle.field.specs.Curve.{IsCurve}
 use Rattle.field.specs.declared.curve.Curve.{Curve}
 use Rattle.field.proofs.Curves.{sizes}
+use Rattle.field.proofs.Fields.{fieldOf}
+use Rattle.poly.specs.inner.Interpolation.{VanishingTree}
 use Rattle.code.specs.Points.{columnsOf}
 use Rattle.code.specs.Terms.{size}
-use Rattle.code.specs.Readable.{Readable, readOver}
+use Rattle.code.specs.inner.Readable.{Readable, readOver}
 use Rattle.code.specs.Unencoded.{unencoded}
 use Rattle.code.proofs.Checks.{Accepted, call-done}
 use Rattle.code.proofs.Answers.{not-refused, entry-refused}
@@ -30,12 +32,12 @@ passed c = let x = c .before .before .before .before .before .args in call-done 
     (sym (c .before .before .call .ensures) ∙ c .enum-told .given .1)
 
 -- the columns that are lent
-columns-are : (c : tie.After-at) → let x = c .before .before .before .before .before .before .before .args in
+columns-are : (c : tie.After-at) → let x = c .before .before .before .before .before .before .before .before .args in
     take (c .at .result .symbols) (c .before .columns .result) ≡ columnsOf (x .q)
 columns-are c =
-    let q = c .before .before .before .before .before .before .before .args .q in
+    let q = c .before .before .before .before .before .before .before .before .args .q in
     ap (λ (v : Curve). take (v .symbols) (c .before .columns .result)) (c .at .ensures) ∙ ap (take (q * q)) (c .before .columns .ensures)
-    ∙ columns-take q (passed (c .before .before) .0)
+    ∙ columns-take q (passed (c .before .before .before) .0)
 
 -- as many as there are symbols
 columns-long : (c : tie.After-at) → c .at .result .symbols ≡ length (take (c .at .result .symbols) (c .before .columns .result))
@@ -51,29 +53,37 @@ returns : tie.Need-returns
 unfolding unencoded
 returns c = let x = c .before .before .before .before .args in entry-refused _ _ (now (x .message)) _ (c .before .call .ensures) (c .match .keys2)
 
+tree-requires : tie.Need-tree-requires
+tree-requires c κs = passed c .0
+
 columns-requires : tie.Need-columns-requires
 columns-requires c κs = search needs
 
 at-requires : tie.Need-at-requires
-at-requires c κs = passed (c .before) .0
+at-requires c κs = passed (c .before .before) .0
 
 cast-c : tie.Need-cast-c
 cast-c c = search needs
 
 array-share-prefix-columns : tie.Need-array-share-prefix-columns
 array-share-prefix-columns c =
-    let few : c .before .at .result .symbols ≤ 16 = rw (c .before .at .ensures) (sizes _ (passed (c .before .before .before) .0) .symbols) in
+    let few : c .before .at .result .symbols ≤ 16 = rw (c .before .at .ensures) (sizes _ (passed (c .before .before .before .before) .0) .symbols) in
     omega (arith, ap length (c .before .before .columns .ensures), length-upTo 16, few)
+
+slice-aggregate-read-word-2 : tie.Need-slice-aggregate-read-word-2
+slice-aggregate-read-word-2 c = search needs
 
 slice-aggregate-read-word : tie.Need-slice-aggregate-read-word
 slice-aggregate-read-word c = columns-long (c .before .before)
 
 read-word-requires : tie.Need-read-word-requires
 read-word-requires c κs =
-    let x = c .before .before .before .before .before .before .before .before .before .before .args in
-    let p = passed (c .before .before .before .before .before) in
-    subst (λ (l : List ℕ). Readable (x .q) l (x .m) (now (x .word)) (now (x .message))) (sym (columns-are (c .before .before .before)))
-    (readable (x .q) (x .m) (now (x .word)) (now (x .message)) (p .0) (p .1) (p .2))
+    let x = c .before .before .before .before .before .before .before .before .before .before .before .before .args in
+    let p = passed (c .before .before .before .before .before .before .before) in
+    let tree = c .before .before .before .before .before .before .tree in
+    subst (λ (l : List ℕ). Readable (x .q) l (x .m) (now (x .word)) (now (x .message)) × VanishingTree (fieldOf (x .q)) l (tree .result))
+    (sym (columns-are (c .before .before .before .before)))
+    (readable (x .q) (x .m) (now (x .word)) (now (x .message)) (p .0) (p .1) (p .2), tree .ensures)
 
 same-length : tie.Need-same-length
 same-length c = search needs
@@ -81,11 +91,11 @@ same-length c = search needs
 returns-2 : tie.Need-returns-2
 unfolding unencoded
 returns-2 c =
-    let x = c .before .before .before .before .before .before .before .before .before .before .before .before .before .args in
-    not-refused _ (now (x .message)) _ (sym (c .before .before .before .before .before .before .before .before .before .before .call .ensures)
-    ∙ c .before .before .before .before .before .before .before .before .enum-told .given .1)
+    let x = c .before .before .before .before .before .before .before .before .before .before .before .before .before .before .before .args in
+    let called = c .before .before .before .before .before .before .before .before .before .before in
+    not-refused _ (now (x .message)) _ (sym (called .before .before .call .ensures) ∙ called .enum-told .given .1)
     ∙ ap (λ (l : List ℕ). readOver (x .q) l (x .m) (now (x .word)) (now (x .message)))
-    (sym (columns-are (c .before .before .before .before .before .before))) ∙ c .before .before .read-word .ensures
+    (sym (columns-are (c .before .before .before .before .before .before .before))) ∙ c .before .before .read-word .ensures
 
 pub unencode-spec : {M : Type 1} → statement M
 unencode-spec =
@@ -94,11 +104,13 @@ unencode-spec =
     call-requires
     enum-told
     returns
+    tree-requires
     columns-requires
     at-requires
     cast-c
     array-share-prefix-columns
     slice-aggregate-read-word
+    slice-aggregate-read-word-2
     read-word-requires
     same-length
     returns-2)

@@ -1,13 +1,20 @@
 -- `interpolation::join` meets its contract, by recursion on the number of columns. Assumes nothing.
-use mathlib.Core.Path.{sym, _∙_}
+use mathlib.Core.Logic.{⊎-elim}
+use mathlib.Core.Path.{sym, _∙_, subst}
+use Prim.Native.Nat.{ℕ, suc, _+_, _*_, _≤_, _<_}
 use native.Mathlib.Omega.{arith}
-use lib.ListN.{length}
-use lib.Seq.{length-take-le}
 use borrow.Author.Needs.{needs}
-use Rattle.poly.proofs.Joins.{joined-one, rows-le, left-asks, once-le, right-asks, twice-length, twice-asks, twice-gives, left-falls, right-falls}
-use Prim.Native.Nat.{ℕ, _<_}
 use borrow.Fn.Kinds.{In}
 use borrow.Fn.PlainCycle.{Measures, is, falls, and}
+use denote.Ref.{now}
+use lib.ListN.{length, length-drop}
+use lib.Seq.{length-take-le}
+use Rattle.field.proofs.Fields.{fieldOf}
+use Rattle.poly.specs.inner.Ranges.{part}
+use Rattle.poly.specs.inner.Interpolation.{half, Node, Tree}
+use Rattle.poly.proofs.Parts.{part-rest}
+use Rattle.poly.proofs.Joins.{FirstJoined, BothJoined, rows-le, halves, joined, left-falls, right-falls}
+use Rattle.poly.proofs.Joins.{left-asks, first-joined, first-alone, first-le, right-asks, both-joined, others-alone}
 use Rattle.poly.proofs.interpolation.join.Reads as join
 use Rattle.poly.proofs.interpolation.join.Kinds as join-kinds
 use Rattle.poly.proofs.interpolation.+join.Lts-join as join-lts
@@ -15,51 +22,109 @@ use Rattle.poly.proofs.interpolation.combine.Reads as combine-reads
 use Rattle.poly.proofs.interpolation.+join.{statement}
 use Rattle.poly.proofs.interpolation.+join.Tie.{close}
 
-abbrev μ-join : Measures 2 join-kinds.ps ℕ
+abbrev μ-join : Measures 3 join-kinds.ps ℕ
 μ-join κs a = length (a .1 .1 .0 .now)
 
-abbrev join-at : ℕ → In 2 join-kinds.ps
-join-at t = and 2 join-kinds.ps (is 2 join-kinds.ps μ-join t) join.Pre
+abbrev join-at : ℕ → In 3 join-kinds.ps
+join-at t = and 3 join-kinds.ps (is 3 join-kinds.ps μ-join t) join.Pre
 
-abbrev join-below : ℕ → In 2 join-kinds.ps
-join-below t = and 2 join-kinds.ps (falls 2 join-kinds.ps _<_ μ-join t) join.Pre
+abbrev join-below : ℕ → In 3 join-kinds.ps
+join-below t = and 3 join-kinds.ps (falls 3 join-kinds.ps _<_ μ-join t) join.Pre
 
 abbrev claims : ℕ → join-lts.Claims
 claims t = (join-below t, join.Post, combine-reads.Asked, combine-reads.Learnt)
 
-join-returns : (t : ℕ) → join-lts.Need-returns (claims t) (join-at t) join.Post
-join-returns t c = joined-one _ _ _ _ (c .before .before .before .pre .1) (c .if1 .taken)
+-- where the two arms of each `if` meet: the first half is joined, and then both
+once : {t : ℕ} (c : join-lts.Joined1 (claims t) (join-at t) join.Post) → let s = c .before .before .before .before in
+    FirstJoined (fieldOf (s .args .q)) (s .args .w) (now (s .args .columns)) (now (s .args .work)) (s .pre .1 .0 .0) (s .pre .1 .0 .1) (c .if1 .work)
+once c =
+    let s = c .before .before .before .before in
+    let p = s .pre .1 .0 .0 in
+    let two = s .pre .1 .0 .1 in
+    ⊎-elim
+    (λ w. first-joined _ _ _ _ p two (c .if1 .work) (w .3 .last .1 .1 .1 .1 .1 .1 .0) (w .3 .kept .1 .1 .1 .1 .1 .1 .0) (w .6) (w .3 .ensures))
+    (λ w. first-alone _ _ _ _ p two (c .if1 .work) (w .1) (w .0 .left))
+    (c .if1 .came)
+
+twice : {t : ℕ} (c : join-lts.Joined2 (claims t) (join-at t) join.Post) → let s = c .before .before .before .before .before in
+    BothJoined (fieldOf (s .args .q)) (s .args .w) (now (s .args .columns)) (now (s .args .work)) (s .pre .1 .0 .0) (s .pre .1 .0 .1)
+    (c .before .if1 .work) (once (c .before)) (c .if2 .work)
+twice c =
+    let s = c .before .before .before .before .before in
+    let p = s .pre .1 .0 .0 in
+    let two = s .pre .1 .0 .1 in
+    ⊎-elim
+    (λ w. both-joined _ _ _ _ p two _ (once (c .before)) (c .if2 .work)
+    (w .3 .last .1 .1 .1 .1 .1 .1 .0) (w .3 .kept .1 .1 .1 .1 .1 .1 .0) (w .6) (w .3 .ensures))
+    (λ w. others-alone _ _ _ _ p two _ (once (c .before)) (c .if2 .work) (w .1) (w .0 .left))
+    (c .if2 .came)
 
 join-mul-n : (t : ℕ) → join-lts.Need-mul-n (claims t) (join-at t) join.Post
 join-mul-n t c =
     let s = c .before .before .before in
-    let p = s .pre .1 in
-    let two = c .if1 .left in
-    omega (arith, rows-le _ _ _ _ p two, s .good)
+    let p = s .pre .1 .0 .0 in
+    let two = s .pre .1 .0 .1 in
+    omega (arith, rows-le _ _ _ _ p two, p .few)
+
+join-add-next : (t : ℕ) → join-lts.Need-add-next (claims t) (join-at t) join.Post
+join-add-next t c =
+    let s = c .before .before .before in
+    let two = s .pre .1 .0 .1 in
+    let bounds = s .pre .1 .1 .1 in
+    let node : Node (fieldOf (s .args .q)) (now (s .args .tree)) (s .args .at) (now (s .args .columns)) = s .pre .1 .1 .0 .0 1 two .0 in
+    omega (arith, node .room, bounds)
+
+join-mul-after : (t : ℕ) → join-lts.Need-mul-after (claims t) (join-at t) join.Post
+join-mul-after t c =
+    let s = c .before .before .before in
+    let p = s .pre .1 .0 .0 in
+    omega (arith, p .few)
+
+join-add-after : (t : ℕ) → join-lts.Need-add-after (claims t) (join-at t) join.Post
+join-add-after t c =
+    let s = c .before .before .before in
+    let p = s .pre .1 .0 .0 in
+    let two = s .pre .1 .0 .1 in
+    let bounds = s .pre .1 .1 .1 in
+    let node : Node (fieldOf (s .args .q)) (now (s .args .tree)) (s .args .at) (now (s .args .columns)) = s .pre .1 .1 .0 .0 1 two .0 in
+    omega (arith, node .room, bounds, p .few)
 
 join-slice-aggregate-join : (t : ℕ) → join-lts.Need-slice-aggregate-join (claims t) (join-at t) join.Post
 join-slice-aggregate-join t c = sym (length-take-le _ _ (omega arith))
 
 join-slice-relend-prefix-join : (t : ℕ) → join-lts.Need-slice-relend-prefix-join (claims t) (join-at t) join.Post
 join-slice-relend-prefix-join t c =
-    let s = c .before .before .before .before in
-    let p = s .pre .1 in
-    let two = c .before .if1 .left in
+    let s = c .before .before .before .before .before in
+    let p = s .pre .1 .0 .0 in
+    let two = s .pre .1 .0 .1 in
     rows-le _ _ _ _ p two
 
 join-slice-aggregate-join-2 : (t : ℕ) → join-lts.Need-slice-aggregate-join-2 (claims t) (join-at t) join.Post
 join-slice-aggregate-join-2 t c =
-    let s = c .before .before .before .before .before in
-    let p = s .pre .1 in
-    let two = c .before .before .if1 .left in
+    let s = c .before .before .before .before .before .before in
+    let p = s .pre .1 .0 .0 in
+    let two = s .pre .1 .0 .1 in
     sym (length-take-le _ _ (rows-le _ _ _ _ p two))
 
 join-join-requires : (t : ℕ) → join-lts.Need-join-requires (claims t) (join-at t) join.Post
 join-join-requires t c κs =
-    let s = c .before .before .before .before .before in
-    let p = s .pre .1 in
-    let two = c .before .before .if1 .left in
-    (left-falls _ _ _ _ p two (s .pre .0), left-asks _ _ _ _ p two)
+    let s = c .before .before .before .before .before .before in
+    let p = s .pre .1 .0 .0 in
+    let two = s .pre .1 .0 .1 in
+    let bounds = s .pre .1 .1 .1 in
+    let columns = now (s .args .columns) in (
+      left-falls _ _ _ _ p two (s .pre .0),
+      (
+        (left-asks _ _ _ _ p two, omega (arith, length-take-le (half columns) columns (omega arith))),
+        ((λ n. s .pre .1 .1 .0 .0 (suc n) two .1, s .pre .1 .1 .0 .1), bounds),
+      ),
+    )
+
+join-add-if2 : (t : ℕ) → join-lts.Need-add-if2 (claims t) (join-at t) join.Post
+join-add-if2 t c =
+    let s = c .before .before .before .before in
+    let p = s .pre .1 .0 .0 in
+    omega (arith, p .few)
 
 join-sub-join : (t : ℕ) → join-lts.Need-sub-join (claims t) (join-at t) join.Post
 join-sub-join t c = omega arith
@@ -72,11 +137,10 @@ join-part-join-end t c = search needs
 
 join-sub-join-2 : (t : ℕ) → join-lts.Need-sub-join-2 (claims t) (join-at t) join.Post
 join-sub-join-2 t c =
-    let s = c .before .before .before .before .before .before .before .before .before in
-    let p = s .pre .1 in
-    let two = c .before .before .before .before .before .before .if1 .left in
-    let l = c .before .before .before .join in
-    once-le _ _ _ _ p two (l .last .1 .1 .1 .0) (l .kept .1 .1 .1 .0)
+    let s = c .before .before .before .before .before .before in
+    let p = s .pre .1 .0 .0 in
+    let two = s .pre .1 .0 .1 in
+    first-le _ _ _ _ p two (c .before .before .if1 .work) (once (c .before .before))
 
 join-part-join-start-2 : (t : ℕ) → join-lts.Need-part-join-start-2 (claims t) (join-at t) join.Post
 join-part-join-start-2 t c = join-sub-join-2 t c
@@ -86,50 +150,121 @@ join-part-join-end-2 t c = search needs
 
 join-join-requires-2 : (t : ℕ) → join-lts.Need-join-requires-2 (claims t) (join-at t) join.Post
 join-join-requires-2 t c κs =
-    let s = c .before .before .before .before .before .before .before .before .before .before in
-    let p = s .pre .1 in
-    let two = c .before .before .before .before .before .before .before .if1 .left in
-    let l = c .before .before .before .before .join in
-    (right-falls _ _ _ _ p two (s .pre .0), right-asks _ _ _ _ p two (l .last .1 .1 .1 .0) (l .kept .1 .1 .1 .0))
+    let s = c .before .before .before .before .before .before .before in
+    let p = s .pre .1 .0 .0 in
+    let two = s .pre .1 .0 .1 in
+    let bounds = s .pre .1 .1 .1 in
+    let columns = now (s .args .columns) in
+    let h = half columns in
+    let right = s .args .at + s .args .stride + 2 * h in
+    let tree = subst (Tree (fieldOf (s .args .q)) (s .args .stride) (now (s .args .tree)) right)
+    (sym (part-rest columns h)) (λ n. s .pre .1 .1 .0 .0 (suc n) two .2) in
+    let more : 2 ≤ length (part columns h (length columns)) =
+    rw (part-rest columns h) (omega (arith, length-drop h columns, c .before .before .if2 .taken)) in (
+      right-falls _ _ _ _ p two (s .pre .0),
+      (
+        (right-asks _ _ _ _ p two (c .before .before .before .if1 .work) (once (c .before .before .before)), more),
+        ((tree, s .pre .1 .1 .0 .1), bounds),
+      ),
+    )
+
+join-sub-mid : (t : ℕ) → join-lts.Need-sub-mid (claims t) (join-at t) join.Post
+join-sub-mid t c = omega arith
+
+join-add-mid : (t : ℕ) → join-lts.Need-add-mid (claims t) (join-at t) join.Post
+join-add-mid t c =
+    let s = c .before .before .before .before .before in
+    let p = s .pre .1 .0 .0 in
+    omega (arith, p .few)
+
+join-add-mid-2 : (t : ℕ) → join-lts.Need-add-mid-2 (claims t) (join-at t) join.Post
+join-add-mid-2 t c =
+    let s = c .before .before .before .before .before in
+    let two = s .pre .1 .0 .1 in
+    let bounds = s .pre .1 .1 .1 in
+    let node : Node (fieldOf (s .args .q)) (now (s .args .tree)) (s .args .at) (now (s .args .columns)) = s .pre .1 .1 .0 .0 1 two .0 in
+    omega (arith, node .room, bounds)
+
+join-sub-end : (t : ℕ) → join-lts.Need-sub-end (claims t) (join-at t) join.Post
+join-sub-end t c = omega arith
+
+join-add-end : (t : ℕ) → join-lts.Need-add-end (claims t) (join-at t) join.Post
+join-add-end t c =
+    let s = c .before .before .before .before .before in
+    let p = s .pre .1 .0 .0 in
+    omega (arith, p .few)
+
+join-add-end-2 : (t : ℕ) → join-lts.Need-add-end-2 (claims t) (join-at t) join.Post
+join-add-end-2 t c =
+    let s = c .before .before .before .before .before in
+    let two = s .pre .1 .0 .1 in
+    let bounds = s .pre .1 .1 .1 in
+    let node : Node (fieldOf (s .args .q)) (now (s .args .tree)) (s .args .at) (now (s .args .columns)) = s .pre .1 .1 .0 .0 1 two .0 in
+    omega (arith, node .room, bounds)
+
+join-sub-combine : (t : ℕ) → join-lts.Need-sub-combine (claims t) (join-at t) join.Post
+join-sub-combine t c = omega arith
+
+join-part-combine-start : (t : ℕ) → join-lts.Need-part-combine-start (claims t) (join-at t) join.Post
+join-part-combine-start t c = omega arith
+
+join-part-combine-end : (t : ℕ) → join-lts.Need-part-combine-end (claims t) (join-at t) join.Post
+join-part-combine-end t c =
+    let s = c .before .before .before .before .before in
+    let two = s .pre .1 .0 .1 in
+    let node : Node (fieldOf (s .args .q)) (now (s .args .tree)) (s .args .at) (now (s .args .columns)) = s .pre .1 .1 .0 .0 1 two .0 in
+    omega (arith, node .room)
+
+join-sub-combine-2 : (t : ℕ) → join-lts.Need-sub-combine-2 (claims t) (join-at t) join.Post
+join-sub-combine-2 t c = omega arith
+
+join-part-combine-start-2 : (t : ℕ) → join-lts.Need-part-combine-start-2 (claims t) (join-at t) join.Post
+join-part-combine-start-2 t c = omega arith
+
+join-part-combine-end-2 : (t : ℕ) → join-lts.Need-part-combine-end-2 (claims t) (join-at t) join.Post
+join-part-combine-end-2 t c =
+    let s = c .before .before .before .before .before .before in
+    let two = s .pre .1 .0 .1 in
+    let node : Node (fieldOf (s .args .q)) (now (s .args .tree)) (s .args .at) (now (s .args .columns)) = s .pre .1 .1 .0 .0 1 two .0 in
+    omega (arith, node .room)
 
 join-combine-requires : (t : ℕ) → join-lts.Need-combine-requires (claims t) (join-at t) join.Post
 join-combine-requires t c κs =
-    let s = c .before .before .before .before .before .before .before .before .before .before .before .before .before .before in
-    let p = s .pre .1 in
-    let two = c .before .before .before .before .before .before .before .before .before .before .before .if1 .left in
-    let l = c .before .before .before .before .before .before .before .before .join in
-    let r = c .before .before .before .join2 in
-    (twice-asks _ _ _ _ p two (l .last .1 .1 .1 .0) (l .kept .1 .1 .1 .0) (r .last .1 .1 .1 .0) (r .kept .1 .1 .1 .0) (l .ensures .below) (r .ensures .below), omega arith, omega arith)
+    let s = c .before .before .before .before .before .before .before .before in
+    let p = s .pre .1 .0 .0 in
+    let two = s .pre .1 .0 .1 in
+    let d = c .before .before .before in
+    halves _ _ _ _ p two _ (once (d .before)) (d .if2 .work) (twice d)
+    (now (s .args .tree)) (s .args .at) _ _ (s .pre .1 .1 .0 .0 1 two .0) (s .pre .1 .1 .0 .1) (omega arith) (omega arith)
 
 join-same-length : (t : ℕ) → join-lts.Need-same-length (claims t) (join-at t) join.Post
 join-same-length t c =
-    let s = c .before .before .before .before .before .before .before .before .before .before .before .before .before .before .before .before .before in
-    let p = s .pre .1 in
-    let two = c .before .before .before .before .before .before .before .before .before .before .before .before .before .before .if1 .left in
-    let l = c .before .before .before .before .before .before .before .before .before .before .before .join in
-    let r = c .before .before .before .before .before .before .join2 in
-    c .before .before .combine .kept .1 .1 .1 .1 .0 ∙ twice-length _ _ _ _ p two (l .last .1 .1 .1 .0) (l .kept .1 .1 .1 .0) (r .last .1 .1 .1 .0) (r .kept .1 .1 .1 .0)
+    c .before .before .combine .kept .1 .1 .1 .1 .1 .1 .0 ∙ twice (c .before .before .before .before .before .before) .long
 
-join-returns-2 : (t : ℕ) → join-lts.Need-returns-2 (claims t) (join-at t) join.Post
-join-returns-2 t c =
-    let s = c .before .before .before .before .before .before .before .before .before .before .before .before .before .before .before .before .before in
-    let p = s .pre .1 in
-    let two = c .before .before .before .before .before .before .before .before .before .before .before .before .before .before .if1 .left in
-    let l = c .before .before .before .before .before .before .before .before .before .before .before .join in
-    let r = c .before .before .before .before .before .before .join2 in
-    twice-gives _ _ _ _ p two (l .last .1 .1 .1 .0) (l .kept .1 .1 .1 .0) (r .last .1 .1 .1 .0) (r .kept .1 .1 .1 .0) _ (l .ensures) (r .ensures) (c .before .before .combine .ensures)
+join-returns : (t : ℕ) → join-lts.Need-returns (claims t) (join-at t) join.Post
+join-returns t c =
+    let s = c .before .before .before .before .before .before .before .before .before .before .before in
+    let p = s .pre .1 .0 .0 in
+    let two = s .pre .1 .0 .1 in
+    let d = c .before .before .before .before .before .before in
+    joined _ _ _ _ p two _ (once (d .before)) (d .if2 .work) (twice d)
+    (now (s .args .tree)) (s .args .at) _ _ (s .pre .1 .1 .0 .0 1 two .0) (s .pre .1 .1 .0 .1) (omega arith) (omega arith)
+    _ (c .before .before .combine .ensures)
 
 pub +join-spec : {M : Type 1} → statement M
 +join-spec = close μ-join λ t. join-lts.spec
     (claims t)
     (join-at t)
     join.Post
-    (join-returns t)
     (join-mul-n t)
+    (join-add-next t)
+    (join-mul-after t)
+    (join-add-after t)
     (join-slice-aggregate-join t)
     (join-slice-relend-prefix-join t)
     (join-slice-aggregate-join-2 t)
     (join-join-requires t)
+    (join-add-if2 t)
     (join-sub-join t)
     (join-part-join-start t)
     (join-part-join-end t)
@@ -137,6 +272,18 @@ pub +join-spec : {M : Type 1} → statement M
     (join-part-join-start-2 t)
     (join-part-join-end-2 t)
     (join-join-requires-2 t)
+    (join-sub-mid t)
+    (join-add-mid t)
+    (join-add-mid-2 t)
+    (join-sub-end t)
+    (join-add-end t)
+    (join-add-end-2 t)
+    (join-sub-combine t)
+    (join-part-combine-start t)
+    (join-part-combine-end t)
+    (join-sub-combine-2 t)
+    (join-part-combine-start-2 t)
+    (join-part-combine-end-2 t)
     (join-combine-requires t)
     (join-same-length t)
-    (join-returns-2 t)
+    (join-returns t)

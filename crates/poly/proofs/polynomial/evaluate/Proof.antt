@@ -1,76 +1,107 @@
--- `polynomial::evaluate` meets its contract. The loop's invariant: acc is the value of the polynomial of the coefficients from i on.
+-- `poly::polynomial::evaluate` meets its contract: Horner's rule in all lanes at once, from the last coefficient on.
 -- Assumes nothing.
-use mathlib.Core.Path.{_≡_, ap, _∙_}
+use mathlib.Core.List.{List}
+use mathlib.Core.Path.{_≡_, sym, subst}
 use Prim.Native.Nat.{ℕ, _+_, _-_, _*_, _≤_, _<_}
-use borrow.Author.Needs.{needs}
+use native.Mathlib.Nat.{mul-suc, mul-le-mul-left}
 use native.Mathlib.Omega.{arith}
 use denote.Ref.{now}
 use lib.ListN.{length, getD}
-use Rattle.field.specs.Plus.{plus}
 use Rattle.field.proofs.Fields.{fieldOf}
-use Rattle.poly.specs.Polynomials.{value}
-use Rattle.poly.proofs.Values.{value-lt, stride-lt, horner-none, horner-more, horner-all}
+use Rattle.poly.specs.inner.Ranges.{Below}
+use Rattle.poly.proofs.Horner.{ahead, ahead-below, ahead-first, ahead-turn, ahead-all}
 use Rattle.poly.proofs.polynomial.evaluate.Statement.{statement}
 use Rattle.poly.proofs.polynomial.evaluate.Tie as tie
 
+-- the coefficient k
+abbrev coefficient : List ℕ → ℕ → ℕ → ℕ → ℕ
+coefficient list start stride k = getD list (stride * k + start) 0
+
 abbrev Inv-loop : tie.InvT-loop
-Inv-loop q list start stride count x i₀ acc₀ i acc =
-    (i ≤ count) × (acc ≡ value (fieldOf q) (count - i) (λ k. getD list (stride * (i + k) + start) 0) x)
+Inv-loop q list start stride count places i₀ values₀ i values =
+    (i < count) × (values ≡ ahead (fieldOf q) count (coefficient list start stride) i places)
 
 abbrev μ-loop : tie.MeasureT-loop
-μ-loop q list start stride count x i₀ acc₀ i acc = i
+μ-loop q list start stride count places i₀ values₀ i values = i
 
-index-lt : (c : tie.In-loop Inv-loop μ-loop) →
-    let a = c .before .before .before .args in a .stride * (c .before .loop .i - 1) + a .start < length (now (a .list))
-index-lt c =
-    let s = c .before .before .before in
-    omega (
-      arith,
-      s .pre .1 .1,
-      stride-lt (s .args .stride) (s .args .start) (c .before .loop .i) (s .args .count) (c .loop-test .taken) (c .before .loop .inv .0) (s .pre .1 .0),
-    )
+-- the coefficient that the loop begins with, and that of a turn
+index-lt : (stride start i count n : ℕ) → i < count → start < stride → stride * count ≤ n → stride * i + start < n
+index-lt stride start i count n h small fits = omega (arith, mul-suc stride i, mul-le-mul-left stride h)
 
-loop-holds : tie.Need-loop-holds Inv-loop μ-loop
-loop-holds c = (omega arith, horner-none (fieldOf (c .before .args .q)) (c .before .args .count) _ (c .before .args .x))
+last-lt : (c : tie.After-shared-slice-known Inv-loop μ-loop)
+    → let a = c .before .args in a .stride * (a .count - 1) + a .start < length (now (a .list))
+last-lt c =
+    let p = c .before .pre .1 in
+    let a = c .before .args in
+    index-lt (a .stride) (a .start) (a .count - 1) (a .count) (length (now (a .list))) (omega (arith, p .0)) (p .1) (p .2)
+
+turn-lt : (c : tie.In-loop Inv-loop μ-loop)
+    → let a = c .before .before .before .before .args in a .stride * (c .before .loop .i - 1) + a .start < length (now (a .list))
+turn-lt c =
+    let p = c .before .before .before .before .pre .1 in
+    let a = c .before .before .before .before .args in
+    let l = c .before .loop in
+    index-lt (a .stride) (a .start) (l .i - 1) (a .count) (length (now (a .list))) (omega (arith, l .inv .0)) (p .1) (p .2)
 
 sub-i : tie.Need-sub-i Inv-loop μ-loop
-sub-i c = omega arith
+sub-i c = c .before .pre .1 .0
 
-times-requires : tie.Need-times-requires Inv-loop μ-loop
-times-requires c κs =
-    let s = c .before .before .before in
-    (rw (c .before .loop .inv .1) (value-lt (fieldOf (s .args .q)) _ _ _), s .pre .0 .1)
+mul-values : tie.Need-mul-values Inv-loop μ-loop
+mul-values c = omega (arith, last-lt c)
 
-mul-plus : tie.Need-mul-plus Inv-loop μ-loop
-mul-plus c = omega (arith, index-lt (c .before))
+add-values : tie.Need-add-values Inv-loop μ-loop
+add-values c = omega (arith, last-lt c)
 
-add-plus : tie.Need-add-plus Inv-loop μ-loop
-add-plus c = omega (arith, index-lt (c .before))
+shared-slice-read-values : tie.Need-shared-slice-read-values Inv-loop μ-loop
+shared-slice-read-values c = last-lt (c .before)
 
-shared-slice-read-plus : tie.Need-shared-slice-read-plus Inv-loop μ-loop
-shared-slice-read-plus c = index-lt (c .before .before)
+loop-holds : tie.Need-loop-holds Inv-loop μ-loop
+loop-holds c =
+    let s = c .before .before in
+    let a = s .args in (
+      omega (arith, s .pre .1 .0),
+      ahead-first (fieldOf (a .q)) (a .count) (coefficient (now (a .list)) (a .start) (a .stride)) (now (a .places)) (s .pre .1 .0) (s .pre .0 .0 _),
+    )
 
-plus-requires : tie.Need-plus-requires Inv-loop μ-loop
-plus-requires c κs = search needs
+sub-i-2 : tie.Need-sub-i-2 Inv-loop μ-loop
+sub-i-2 c = omega arith
+
+mul-step : tie.Need-mul-step Inv-loop μ-loop
+mul-step c = omega (arith, turn-lt c)
+
+add-step : tie.Need-add-step Inv-loop μ-loop
+add-step c = omega (arith, turn-lt c)
+
+shared-slice-read-step : tie.Need-shared-slice-read-step Inv-loop μ-loop
+shared-slice-read-step c = turn-lt (c .before)
+
+step-requires : tie.Need-step-requires Inv-loop μ-loop
+step-requires c κs =
+    let s = c .before .before .before .before .before .before in
+    let a = s .args in
+    let l = c .before .before .before .loop in
+    let below = ahead-below (fieldOf (a .q)) (a .count) (coefficient (now (a .list)) (a .start) (a .stride)) (now (a .places)) (l .i) in
+    (s .pre .0 .1, subst (Below (fieldOf (a .q) .size)) (sym (l .inv .1)) below)
 
 loop-less : tie.Need-loop-less Inv-loop μ-loop
 loop-less c = omega arith
 
 loop-again : tie.Need-loop-again Inv-loop μ-loop
 loop-again c =
-    let l = c .before .before .before .before .loop in
-    let s = c .before .before .before .before .before .before in
-    let f : ℕ → ℕ = λ k. getD (now (s .args .list)) (s .args .stride * k + s .args .start) 0 in (
-      omega arith,
-      c .plus .ensures ∙ ap (λ (v : ℕ). plus v (f (l .i - 1))) (c .before .before .times .ensures)
-          ∙ horner-more (fieldOf (s .args .q)) (s .args .count) (l .i) f (s .args .x) (l .acc)
-          (c .before .before .before .loop-test .taken) (l .inv .0) (s .pre .0 .0 _) (l .inv .1),
+    let s = c .before .before .before .before .before .before .before in
+    let a = s .args in
+    let l = c .before .before .before .before .loop in (
+      omega (arith, l .inv .0),
+      ahead-turn (fieldOf (a .q)) (a .count) (coefficient (now (a .list)) (a .start) (a .stride)) (now (a .places)) (l .i) (l .values) _
+          (c .before .before .before .loop-test .taken) (l .inv .0) (s .pre .0 .0 _) (l .inv .1) (c .step .ensures),
     )
 
 returns : tie.Need-returns Inv-loop μ-loop
 returns c =
-    let a = c .before .before .before .args in
-    horner-all (fieldOf (a .q)) (a .count) (c .before .loop .i) (λ k. getD (now (a .list)) (a .stride * k + a .start) 0) (a .x) _ (c .loop-test .left) (c .before .loop .inv .1)
+    let a = c .before .before .before .before .args in
+    let l = c .before .loop in
+    ahead-all (fieldOf (a .q)) (a .count) (coefficient (now (a .list)) (a .start) (a .stride)) (now (a .places)) (l .i) (l .values)
+    (c .loop-test .left) (l .inv .1)
 
 pub evaluate-spec : {M : Type 1} → statement M
 evaluate-spec =
@@ -78,13 +109,16 @@ evaluate-spec =
     (tie.spec
     Inv-loop
     μ-loop
-    loop-holds
     sub-i
-    times-requires
-    mul-plus
-    add-plus
-    shared-slice-read-plus
-    plus-requires
+    mul-values
+    add-values
+    shared-slice-read-values
+    loop-holds
+    sub-i-2
+    mul-step
+    add-step
+    shared-slice-read-step
+    step-requires
     loop-less
     loop-again
     returns)

@@ -4,7 +4,7 @@ use Prim.Native.Nat.{_+_, _-_, _*_, _<_}
 use native.Mathlib.Omega.{arith}
 use denote.Ref.{now}
 use lib.ListN.{length, getD}
-use Rattle.poly.specs.Polynomials.{Terms}
+use Rattle.poly.specs.inner.Polynomials.{Terms}
 use Rattle.poly.proofs.Values.{stride-lt}
 use Rattle.poly.proofs.Horner.{terms-all, terms-turn}
 use Rattle.poly.proofs.polynomial.terms.Statement.{statement}
@@ -16,7 +16,8 @@ Inv-loop list start stride count i₀ i = Terms (λ k. getD list (stride * k + s
 abbrev μ-loop : tie.MeasureT-loop
 μ-loop list start stride count i₀ i = i
 
-index-lt : (c : tie.In-loop Inv-loop μ-loop) → let a = c .before .before .args in a .stride * (c .before .loop .i - 1) + a .start < length (now (a .list))
+index-lt : (c : tie.In-loop Inv-loop μ-loop) → let a = c .before .before .args in
+    a .stride * (c .before .loop .i - 1) + a .start < length (now (a .list))
 index-lt c =
     let s = c .before .before in
     let l = c .before .loop in

@@ -6,9 +6,9 @@ use native.Mathlib.Omega.{arith}
 use lib.ListN.{length, length-set}
 use Rattle.field.specs.Plus.{plus}
 use Rattle.field.proofs.Fields.{fieldOf}
-use Rattle.poly.specs.Ranges.{writes}
-use Rattle.poly.specs.Linear.{entry}
-use Rattle.poly.specs.Rows.{added}
+use Rattle.poly.specs.inner.Ranges.{writes}
+use Rattle.poly.specs.inner.Linear.{entry}
+use Rattle.poly.specs.inner.Rows.{added}
 use Rattle.poly.proofs.Writes.{writes-turn, writes-kept, writes-end}
 use Rattle.poly.proofs.rows.add_scaled.Statement.{statement}
 use Rattle.poly.proofs.rows.add_scaled.Tie as tie

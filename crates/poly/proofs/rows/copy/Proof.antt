@@ -4,9 +4,9 @@ use mathlib.Core.Path.{_≡_, refl}
 use Prim.Native.Nat.{_≤_, _-_}
 use native.Mathlib.Omega.{arith}
 use lib.ListN.{length, length-set}
-use Rattle.poly.specs.Ranges.{writes}
-use Rattle.poly.specs.Linear.{entry}
-use Rattle.poly.specs.Rows.{stored}
+use Rattle.poly.specs.inner.Ranges.{writes}
+use Rattle.poly.specs.inner.Linear.{entry}
+use Rattle.poly.specs.inner.Rows.{stored}
 use Rattle.poly.proofs.Writes.{writes-turn, writes-end}
 use Rattle.poly.proofs.rows.copy.Statement.{statement}
 use Rattle.poly.proofs.rows.copy.Tie as tie

@@ -5,9 +5,9 @@ use Prim.Native.Nat.{_≤_, _-_}
 use native.Mathlib.Omega.{arith}
 use lib.ListN.{length, length-set}
 use Rattle.field.proofs.Fields.{fieldOf}
-use Rattle.poly.specs.Ranges.{writes}
-use Rattle.poly.specs.Linear.{entry}
-use Rattle.poly.specs.Rows.{scaled}
+use Rattle.poly.specs.inner.Ranges.{writes}
+use Rattle.poly.specs.inner.Linear.{entry}
+use Rattle.poly.specs.inner.Rows.{scaled}
 use Rattle.poly.proofs.Writes.{writes-turn, writes-kept, writes-end}
 use Rattle.poly.proofs.rows.scale.Statement.{statement}
 use Rattle.poly.proofs.rows.scale.Tie as tie
@@ -44,8 +44,11 @@ loop-again : tie.Need-loop-again Inv-loop μ-loop
 loop-again c =
     let l = c .before .before .before .loop in
     let s = c .before .before .before .before .before in
-    let kept = writes-kept _ _ (l .row) (l .j) (l .inv .2) in
-    (omega arith, simp length-set (l .inv .1), writes-turn _ _ (l .row) (l .j) _ (l .inv .2) (c .times .ensures ∙ ap (fieldOf (s .args .q) .times (s .args .c)) kept))
+    let kept = writes-kept _ _ (l .row) (l .j) (l .inv .2) in (
+      omega arith,
+      simp length-set (l .inv .1),
+      writes-turn _ _ (l .row) (l .j) _ (l .inv .2) (c .times .ensures ∙ ap (fieldOf (s .args .q) .times (s .args .c)) kept),
+    )
 
 same-length : tie.Need-same-length Inv-loop μ-loop
 same-length c = c .before .loop .inv .1

@@ -23,8 +23,10 @@ same-length-2 c = search needs
 returns : tie.Need-returns
 returns c =
     let s = c .before .before .before .before .before .before .before .before .before .before in
-    let r = c .before .before .before .before .before .reduce in
-    (s .pre .0 .0, (redundant _ (s .args .k) _ (s .args .row .now) _ (rw (c .before .before .if1 .taken) at (r .ensures .reducing)) (c .if2 .taken), refl))
+    let r = c .before .before .before .before .before .reduce in (
+      s .pre .0 .0,
+      (redundant _ (s .args .k) _ (s .args .row .now) _ (rw (c .before .before .if1 .taken) at (r .ensures .reducing)) (c .if2 .taken), refl),
+    )
 
 same-length-3 : tie.Need-same-length-3
 same-length-3 c = search needs
@@ -35,8 +37,10 @@ same-length-4 c = search needs
 returns-2 : tie.Need-returns-2
 returns-2 c =
     let s = c .before .before .before .before .before .before .before .before .before .before in
-    let r = c .before .before .before .before .before .reduce in
-    (s .pre .0 .0, (contradiction _ (s .args .k) _ (s .args .row .now) _ (rw (c .before .before .if1 .taken) at (r .ensures .reducing)) (c .if2 .left), refl))
+    let r = c .before .before .before .before .before .reduce in (
+      s .pre .0 .0,
+      (contradiction _ (s .args .k) _ (s .args .row .now) _ (rw (c .before .before .if1 .taken) at (r .ensures .reducing)) (c .if2 .left), refl),
+    )
 
 sub-place : tie.Need-sub-place
 sub-place c = search needs

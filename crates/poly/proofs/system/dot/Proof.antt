@@ -8,7 +8,7 @@ use native.Mathlib.Omega.{arith}
 use Rattle.field.specs.Plus.{plus}
 use Rattle.field.proofs.Plus.{is-plus, plus-assoc, plus-zero}
 use Rattle.field.proofs.Fields.{fieldOf}
-use Rattle.poly.specs.Linear.{entry, dot}
+use Rattle.poly.specs.inner.Linear.{entry, dot}
 use Rattle.poly.proofs.Linear.{dot-none, dot-suc}
 use Rattle.poly.proofs.system.dot.Statement.{statement}
 use Rattle.poly.proofs.system.dot.Tie as tie

@@ -1,13 +1,13 @@
 -- `poly::system::place` meets its contract.
 -- Assumes nothing.
-use mathlib.Core.Path.{ap, _∙_}
+use mathlib.Core.Path.{_≡_, ap, _∙_}
 use mathlib.Core.List.{List}
 use Prim.Native.Nat.{ℕ, _+_, _*_, _≤_}
 use native.Mathlib.Omega.{arith}
 use lib.ListN.{length}
 use Rattle.field.proofs.Fields.{fieldOf, inverse-lt}
-use Rattle.poly.specs.Ranges.{part, put}
-use Rattle.poly.specs.Rows.{stored, scaled, divided, placed}
+use Rattle.poly.specs.inner.Ranges.{part, put}
+use Rattle.poly.specs.inner.Rows.{stored, scaled, divided, placed}
 use Rattle.poly.proofs.Parts.{put-is}
 use Rattle.poly.proofs.WellFormed.{row-fits}
 use borrow.Author.Needs.{needs}
@@ -66,12 +66,14 @@ returns c =
     let base : ℕ = s .args .i * s .args .stride in
     let end : ℕ = base + s .args .stride in
     let n : ℕ = s .args .k + 1 in
+    let pivot = c .before .before .before .before .before .before .before .before .before .inverse in
+    let scaled-row : _ ≡ scaled (fieldOf (s .args .q)) (pivot .result) n (s .args .row .now) =
+    c .before .before .before .before .before .before .before .scale .ensures in
     put-is w base end _ (omega arith)
     ∙ ap (put w base end)
     (c .before .before .copy .ensures
     ∙ ap (λ (r : List ℕ). stored n r (part w base end))
-    (c .before .before .before .before .before .before .before .scale .ensures
-    ∙ ap (λ (x : ℕ). scaled (fieldOf (s .args .q)) x n (s .args .row .now)) (c .before .before .before .before .before .before .before .before .before .inverse .ensures)))
+    (scaled-row ∙ ap (λ (x : ℕ). scaled (fieldOf (s .args .q)) x n (s .args .row .now)) (pivot .ensures)))
 
 pub place-spec : {M : Type 1} → statement M
 place-spec =

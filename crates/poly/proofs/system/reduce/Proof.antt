@@ -5,7 +5,7 @@ use Prim.Native.Nat.{ℕ, _+_, _-_, _*_, _≤_}
 use native.Mathlib.Omega.{arith}
 use lib.ListN.{length}
 use Rattle.field.proofs.Fields.{fieldOf}
-use Rattle.poly.specs.Systems.{flat, Reducing}
+use Rattle.poly.specs.inner.Systems.{flat, Reducing}
 use Rattle.poly.proofs.Parts.{length-part, below-part}
 use Rattle.poly.proofs.WellFormed.{row-fits}
 use Rattle.poly.proofs.Reduction.{reducing-start, reducing-skip, reducing-turn}
@@ -23,7 +23,8 @@ fits : (c : tie.In-loop Inv-loop μ-loop) → let s = c .before .before .before 
     (c .before .loop .p - 1) * s .args .stride + s .args .stride ≤ length (s .args .work .now)
 fits c =
     let s = c .before .before .before .before in
-    row-fits _ (s .args .stride) (s .args .k) (s .args .work .now) (s .pre .0 .0) (c .before .loop .p - 1) (omega (arith, c .before .loop .inv .within))
+    row-fits _ (s .args .stride) (s .args .k) (s .args .work .now) (s .pre .0 .0) (c .before .loop .p - 1)
+    (omega (arith, c .before .loop .inv .within))
 
 loop-holds : tie.Need-loop-holds Inv-loop μ-loop
 loop-holds c =
@@ -34,7 +35,13 @@ sub-i : tie.Need-sub-i Inv-loop μ-loop
 sub-i c = omega arith
 
 slice-read-c : tie.Need-slice-read-c Inv-loop μ-loop
-slice-read-c c = omega (arith, c .before .before .loop .inv .long, c .before .before .loop .inv .within, c .before .before .before .before .before .pre .0 .1 .long)
+slice-read-c c =
+    omega (
+      arith,
+      c .before .before .loop .inv .long,
+      c .before .before .loop .inv .within,
+      c .before .before .before .before .before .pre .0 .1 .long,
+    )
 
 mul-base : tie.Need-mul-base Inv-loop μ-loop
 mul-base c = omega (arith, fits (c .before .before))
@@ -72,9 +79,13 @@ add-scaled-requires c κs =
     let s = c .before .before .before .before .before .before .before .before .before .before in
     let l = c .before .before .before .before .before .before .before .loop in
     let base : ℕ = (l .p - 1) * s .args .stride in
-    let long = length-part (s .args .work .now) base (base + s .args .stride) (omega arith) (fits (c .before .before .before .before .before .before)) in (
+    let long =
+    length-part (s .args .work .now) base (base + s .args .stride) (omega arith) (fits (c .before .before .before .before .before .before)) in (
       (omega (arith, long, s .pre .1 .1), omega (arith, l .inv .long, s .pre .1 .2)),
-      (l .inv .symbols (l .p - 1) (omega (arith, l .inv .within)), λ j h. below-part _ (s .args .work .now) base (base + s .args .stride) (s .pre .0 .0 .symbols) j),
+      (
+        l .inv .symbols (l .p - 1) (omega (arith, l .inv .within)),
+        λ j h. below-part _ (s .args .work .now) base (base + s .args .stride) (s .pre .0 .0 .symbols) j,
+      ),
     )
 
 loop-less : tie.Need-loop-less Inv-loop μ-loop
@@ -86,7 +97,8 @@ loop-again c =
     let l = c .before .before .before .before .before .before .before .before .before .before .loop in
     rw (c .before .before .add-scaled .ensures)
     (reducing-turn _ (s .args .stride) (s .args .k) (s .args .work .now) (s .args .row .now) (s .pre .0 .0) (s .pre .0 .1) (l .row) (l .p) (l .inv)
-    (c .before .before .before .before .before .before .before .before .before .loop-test .taken) (s .args .n) (s .pre .1 .0) (s .pre .1 .1) (omega (arith, l .inv .long, s .pre .1 .2)) (c .before .before .before .before .before .if2 .left))
+    (c .before .before .before .before .before .before .before .before .before .loop-test .taken) (s .args .n) (s .pre .1 .0) (s .pre .1 .1)
+    (omega (arith, l .inv .long, s .pre .1 .2)) (c .before .before .before .before .before .if2 .left))
 
 loop-less-2 : tie.Need-loop-less-2 Inv-loop μ-loop
 loop-less-2 c = omega arith

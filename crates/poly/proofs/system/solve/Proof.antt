@@ -5,7 +5,7 @@ use native.Mathlib.Nat.{le-antisymm}
 use native.Mathlib.Omega.{arith}
 use lib.ListN.{length}
 use Rattle.field.proofs.Fields.{fieldOf}
-use Rattle.poly.specs.Systems.{flat}
+use Rattle.poly.specs.inner.Systems.{flat}
 use Rattle.poly.proofs.Parts.{length-part, below-part}
 use Rattle.poly.proofs.WellFormed.{row-fits}
 use Rattle.poly.proofs.Substitution.{Solving, solving-start, solving-turn, solved}
@@ -74,7 +74,8 @@ loop-again : tie.Need-loop-again Inv-loop μ-loop
 loop-again c =
     let s = c .before .before .before .before .before .before .before .before in
     let l = c .before .before .before .before .before .loop in
-    solving-turn _ (s .args .stride) (s .args .k) (s .args .work .now) (s .pre .0 .0) (s .args .message .now) (l .message) (l .p) (c .dot .result) (s .pre .0 .1) (l .inv)
+    solving-turn _ (s .args .stride) (s .args .k) (s .args .work .now) (s .pre .0 .0) (s .args .message .now)
+    (l .message) (l .p) (c .dot .result) (s .pre .0 .1) (l .inv)
     (c .before .before .before .before .loop-test .taken) (c .dot .ensures)
 
 same-length : tie.Need-same-length Inv-loop μ-loop

@@ -40,9 +40,9 @@ element-write-self-2 c = inside (c .before .before .before)
 
 returns : tie.Need-returns
 returns c =
-    let told = c .before .before .before in
-    let x = told .before .before .before .args in
-    sym (arrived-merged (x .t1) (x .place) (x .symbol) (x .round) _ (told .before .before .check .ensures) (told .enum-told .given .1) _
+    let answerOf = c .before .before .before in
+    let x = answerOf .before .before .before .args in
+    sym (arrived-merged (x .t1) (x .place) (x .symbol) (x .round) _ (answerOf .before .before .check .ensures) (answerOf .enum-told .given .1) _
     (c .merge .ensures))
 
 returns-2 : tie.Need-returns-2

@@ -26,9 +26,10 @@ same-length c = search needs
 returns : tie.Need-returns
 returns c =
     let received = c .before .before .before .before in
-    let told = received .before in
-    let x = told .before .before .before .before .before .args in
-    replayed-asked (x .q) (x .m) (now (x .arrivals)) (now (x .message)) _ (told .before .before .«open» .ensures) (told .enum-told .given .1) _
+    let answerOf = received .before in
+    let x = answerOf .before .before .before .before .before .args in
+    replayed-asked (x .q) (x .m) (now (x .arrivals)) (now (x .message)) _ (answerOf .before .before .«open» .ensures)
+    (answerOf .enum-told .given .1) _
     (received .receive .ensures)
     ∙ c .before .before .ask .ensures
 

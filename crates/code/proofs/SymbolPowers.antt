@@ -1,0 +1,26 @@
+-- Each symbol is a root of x^(q·q) + x.
+-- Assumes nothing.
+use mathlib.Core.Path.{_≡_}
+use Prim.Native.Nat.{ℕ, _*_, _<_}
+use lib.Dec.{T, eqb, eqb→eq}
+use Rattle.field.specs.Power.{power}
+use Rattle.field.specs.Product.{times}
+use Rattle.field.specs.Curve.{IsCurve}
+use Rattle.field.specs.Tests.{every}
+use Rattle.field.proofs.Fields.{fieldOf}
+use Rattle.field.proofs.Curves.{each-curve}
+use Rattle.field.proofs.Search.{of-every}
+
+powers-2 : T (every 4 (λ x. eqb (power (fieldOf 2) x 4) x))
+unfolding times power every
+powers-2 = tt
+
+powers-4 : T (every 16 (λ x. eqb (power (fieldOf 4) x 16) x))
+unfolding times power every
+powers-4 = tt
+
+pub power-size : (q : ℕ) → IsCurve q → (x : ℕ) → x < q * q → power (fieldOf q) x (q * q) ≡ x
+power-size =
+    each-curve (λ q. (x : ℕ) → x < q * q → power (fieldOf q) x (q * q) ≡ x)
+    (λ x l. eqb→eq (power (fieldOf 2) x 4) x (of-every 4 (λ x. eqb (power (fieldOf 2) x 4) x) powers-2 x l))
+    (λ x l. eqb→eq (power (fieldOf 4) x 16) x (of-every 16 (λ x. eqb (power (fieldOf 4) x 16) x) powers-4 x l))

@@ -1,0 +1,19 @@
+-- `code::point::tree_4` meets its contract: the rule of the table, by computed tests.
+-- Assumes nothing.
+use Prim.Native.Nat.{_≤_}
+use native.Mathlib.Omega.{arith}
+use Rattle.field.specs.Plus.{plus}
+use Rattle.field.specs.Product.{times}
+use Rattle.field.specs.Tests.{every}
+use Rattle.field.proofs.Fields.{fieldOf}
+use Rattle.poly.proofs.Trees.{timesLinear, coefficients, holds, isNode, isTree, vanishing-tree}
+use Rattle.code.specs.Passing.{passing, upTo}
+use Rattle.code.proofs.point.tree_4.Statement.{statement}
+use Rattle.code.proofs.point.tree_4.Tie as tie
+
+returns : tie.Need-returns
+unfolding times plus passing every timesLinear coefficients holds isNode isTree
+returns c = vanishing-tree (fieldOf 4) 4 (upTo 16) _ (omega arith) (omega arith) tt tt tt
+
+pub tree-4-spec : {M : Type 1} → statement M
+tree-4-spec = tie.close (tie.spec returns)

@@ -1,0 +1,7 @@
+pub mod Grid
+pub mod Columns
+pub mod Encodable
+pub mod Rows
+pub mod Recovering
+pub mod Readable
+pub mod Highest

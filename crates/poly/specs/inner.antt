@@ -1,0 +1,8 @@
+pub mod Ranges
+pub mod Lanes
+pub mod Polynomials
+pub mod Linear
+pub mod Rows
+pub mod Systems
+pub mod Interpolation
+pub mod RootInterpolation

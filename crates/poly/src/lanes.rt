@@ -1,0 +1,123 @@
+// Sixteen symbols at once. Each loop has sixteen turns, and becomes vector code.
+ghost use mathlib.Core.Logic.{_⊎_};
+ghost use mathlib.Core.Path.{_≡_};
+ghost use Prim.Native.Nat.{_+_, _≤_, _<_};
+ghost use lib.ListN.{length, getD};
+ghost use Rattle.field.specs.Plus.{plus};
+ghost use Rattle.field.specs.Sum.{sum};
+ghost use Rattle.field.proofs.Fields.{fieldOf};
+ghost use Rattle.poly.specs.inner.Ranges.{Below};
+ghost use Rattle.poly.specs.inner.Linear.{entry};
+ghost use Rattle.poly.specs.inner.Rows.{stored};
+ghost use Rattle.poly.specs.inner.Lanes.{lanes};
+
+// Sixteen elements from at on.
+pub fn take(list: &[u8], at: usize) -> [u8; 16]
+    requires { ⌜ at + 16 ≤ length (now list) ⌝ }
+    ensures { λ r. ⌜ r ≡ lanes (λ t. getD (now (list .entry)) (at + t) 0) ⌝ }
+{
+    let mut r = [0u8; 16];
+    let mut t = 0;
+    while t < 16 {
+        r[t] = list[at + t];
+        t += 1;
+    }
+    r
+}
+
+// The elements of a list of 2 or 4, and zeros.
+pub fn load(list: &[u8]) -> [u8; 16]
+    requires { ⌜ (length (now list) ≡ 2) ⊎ (length (now list) ≡ 4) ⌝ }
+    ensures { λ r. ⌜ r ≡ lanes (entry (now (list .entry))) ⌝ }
+{
+    let mut r = [0u8; 16];
+    r[0] = list[0];
+    r[1] = list[1];
+    if 2 < list.len() {
+        r[2] = list[2];
+        r[3] = list[3];
+    }
+    r
+}
+
+// The elements of out, 2 or 4, become the first of the lanes.
+pub fn store(a: &[u8; 16], out: &mut [u8])
+    requires { ⌜ (length (now out) ≡ 2) ⊎ (length (now out) ≡ 4) ⌝ }
+    ensures { λ _. ⌜ now (out .exit) ≡ stored (length (now (out .entry))) (now (a .entry)) (now (out .entry)) ⌝ }
+{
+    out[0] = a[0];
+    out[1] = a[1];
+    if 2 < out.len() {
+        out[2] = a[2];
+        out[3] = a[3];
+    }
+}
+
+// The sum of all lanes.
+pub fn sum(a: &[u8; 16]) -> u8
+    ensures { λ r. ⌜ r ≡ sum 16 (entry (now (a .entry))) ⌝ }
+{
+    let mut r = 0u8;
+    let mut t = 0;
+    while t < 16 {
+        r = r ^ a[t];
+        t += 1;
+    }
+    r
+}
+
+// a + b
+pub fn plus(a: &[u8; 16], b: &[u8; 16]) -> [u8; 16]
+    ensures { λ r. ⌜ r ≡ lanes (λ t. plus (entry (now (a .entry)) t) (entry (now (b .entry)) t)) ⌝ }
+{
+    let mut r = [0u8; 16];
+    let mut t = 0;
+    while t < 16 {
+        r[t] = a[t] ^ b[t];
+        t += 1;
+    }
+    r
+}
+
+// a * b, lane by lane
+pub fn multiply(q: u8, a: &[u8; 16], b: &[u8; 16]) -> [u8; 16]
+    requires { ⌜ Below (fieldOf q .size) (now a) × Below (fieldOf q .size) (now b) ⌝ }
+    ensures { λ r. ⌜ r ≡ lanes (λ t. fieldOf q .times (entry (now (a .entry)) t) (entry (now (b .entry)) t)) ⌝ }
+{
+    let mut r = [0u8; 16];
+    let mut t = 0;
+    while t < 16 {
+        r[t] = field::symbol::times(q, a[t], b[t]);
+        t += 1;
+    }
+    r
+}
+
+// a + b * c
+pub fn add_scaled(q: u8, c: u8, a: &[u8; 16], b: &[u8; 16]) -> [u8; 16]
+    requires { ⌜ (c < fieldOf q .size) × Below (fieldOf q .size) (now b) ⌝ }
+    ensures { λ r. ⌜ r ≡ lanes (λ t. plus (entry (now (a .entry)) t) (fieldOf q .times (entry (now (b .entry)) t) c)) ⌝ }
+{
+    let factor = [c; 16];
+    let mut r = [0u8; 16];
+    let mut t = 0;
+    while t < 16 {
+        r[t] = a[t] ^ field::symbol::times(q, b[t], factor[t]);
+        t += 1;
+    }
+    r
+}
+
+// Horner's step: a * b, and c in every lane.
+pub fn step(q: u8, c: u8, a: &[u8; 16], b: &[u8; 16]) -> [u8; 16]
+    requires { ⌜ Below (fieldOf q .size) (now a) × Below (fieldOf q .size) (now b) ⌝ }
+    ensures { λ r. ⌜ r ≡ lanes (λ t. plus (fieldOf q .times (entry (now (a .entry)) t) (entry (now (b .entry)) t)) c) ⌝ }
+{
+    let mut r = [0u8; 16];
+    let mut t = 0;
+    while t < 16 {
+        r[t] = field::symbol::times(q, a[t], b[t]) ^ c;
+        t += 1;
+    }
+    r
+}

@@ -17,7 +17,7 @@ use Rattle.poly.specs.Messages.{Vector}
 use Rattle.poly.specs.Sets.{ListOf}
 use Rattle.poly.specs.inner.Ranges.{Below}
 use Rattle.poly.specs.inner.Polynomials.{value}
-use Rattle.poly.specs.inner.Interpolation.{interleaved, InterpolatedRows}
+use Rattle.poly.specs.inner.Interpolation.{interleaved, Interpolated}
 use Rattle.poly.proofs.Lists.{each-mem}
 use Rattle.poly.proofs.Messages.{below-vector, vector-below}
 use Rattle.poly.proofs.Values.{value-cong, value-lt}
@@ -64,7 +64,7 @@ vector-gather q m b grid h =
 module _ (q : ℕ) (columns word : List ℕ) (w : WordOver q columns word) where
   -- interpolation in y, then in x, leaves it in the front of work
   pub grid-of : (rows work : List ℕ) → InterpolatedInY q columns word rows → length work ≡ 16 * length columns
-      → InterpolatedRows (fieldOf q) q columns rows work
+      → Interpolated (fieldOf q) 16 q columns rows work
       → GridOf q columns word (take (length word) work)
   grid-of rows work first long second =
       record {

@@ -18,7 +18,7 @@ use Rattle.poly.specs.inner.Linear.{entry}
 use Rattle.poly.specs.inner.Rows.{scaled, stored}
 use Rattle.poly.specs.inner.Lanes.{lanes}
 use Rattle.poly.specs.inner.Polynomials.{value, derivative, vanishing, others, Terms, Vanishing}
-use Rattle.poly.specs.inner.Interpolation.{interleaved, divided, Joinable, Joined, Slopes, Divided, InterpolatedRows}
+use Rattle.poly.specs.inner.Interpolation.{interleaved, divided, Joinable, Joined, Slopes, Divided, Interpolated}
 use Rattle.poly.proofs.Entries.{zeros, getD-zeros}
 use Rattle.poly.proofs.Writes.{length-writes, writes-in, writes-out}
 use Rattle.poly.proofs.Parts.{put-is}
@@ -151,7 +151,7 @@ module _ (F : Field) where
   -- ---- `interpolate`
 
   pub interpolated : (w : ℕ) (columns rows₀ rows₁ rows₂ : List ℕ) → Joinable F w columns rows₀ → Nodup columns
-      → Divided F columns rows₀ rows₁ → Joined F w columns rows₁ rows₂ → InterpolatedRows F w columns rows₀ rows₂
+      → Divided F columns rows₀ rows₁ → Joined F w columns rows₁ rows₂ → Interpolated F 16 w columns rows₀ rows₂
   interpolated w columns rows₀ rows₁ rows₂ p n d j = record {
     below = j .below;
     is = λ i t iw h.

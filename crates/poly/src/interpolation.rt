@@ -11,7 +11,7 @@ ghost use Rattle.poly.specs.inner.Linear.{entry};
 ghost use Rattle.poly.specs.inner.Rows.{scaled};
 ghost use Rattle.poly.specs.inner.Polynomials.{Vanishing};
 ghost use Rattle.poly.specs.inner.Interpolation.{crossed, Crossable, Padded, Placed, Written, Halves, Combined};
-ghost use Rattle.poly.specs.inner.Interpolation.{Tree, Joinable, Joined, Slopes, Divided, VanishingTree, InterpolatedRows};
+ghost use Rattle.poly.specs.inner.Interpolation.{Tree, Joinable, Joined, Slopes, Divided, VanishingTree, Interpolated};
 use crate::lanes;
 use crate::polynomial;
 use crate::rows;
@@ -187,7 +187,7 @@ fn divide(q: u8, columns: &[u8], vanishing: &[u8], work: &mut [u8])
 pub fn interpolate(q: u8, w: usize, columns: &[u8], tree: &[u8], work: &mut [u8])
     requires { ⌜ Joinable (fieldOf q) w (now columns) (now work) × (1 ≤ length (now columns)) × Nodup (now columns) ⌝ }
     requires { ⌜ VanishingTree (fieldOf q) (now columns) (now tree) ⌝ }
-    ensures { λ _. ⌜ InterpolatedRows (fieldOf q) w (now (columns .entry)) (now (work .entry)) (now (work .exit)) ⌝ }
+    ensures { λ _. ⌜ Interpolated (fieldOf q) 16 w (now (columns .entry)) (now (work .entry)) (now (work .exit)) ⌝ }
 {
     let root = columns.len() + 1;
     divide(q, columns, &tree[..root], work);

@@ -15,13 +15,13 @@ use Rattle.poly.specs.inner.Polynomials.{value, vanishing, others, Vanis
 abbrev pub interleaved : ℕ → List ℕ → ℕ → ℕ → ℕ
 interleaved w s j i = getD s (w * i + j) 0
 
--- row i as a polynomial in y, at y
-unfoldable pub row : Field → ℕ → List ℕ → ℕ → ℕ → ℕ
-row F w s i y = value F w (λ j. interleaved w s j i) y
+-- row i of a list in rows of d, its first w numbers as a polynomial in y, at y
+unfoldable pub row : Field → ℕ → ℕ → List ℕ → ℕ → ℕ → ℕ
+row F d w s i y = value F w (λ j. interleaved d s j i) y
 
 -- the sum of s[w * i + j] * x^i * y^j over i < n and j < w
 unfoldable pub bivariate : Field → ℕ → ℕ → List ℕ → ℕ → ℕ → ℕ
-bivariate F w n s x y = value F n (λ i. row F w s i y) x
+bivariate F w n s x y = value F n (λ i. row F w w s i y) x
 
 -- the sum over the columns of f t times the product of (x - b) over the other columns b
 unfoldable pub lagrangeSum : Field → List ℕ → (ℕ → ℕ) → ℕ → ℕ
@@ -147,13 +147,7 @@ pub record Divided (F : Field) (columns work₀ work : List ℕ) : Type 0 where
   pub below : Below (F .size) work
   pub is : (j t : ℕ) → j < 16 → t < length columns → interleaved 16 work j t ≡ divided F columns (interleaved 16 work₀ j) t
 
--- the polynomials of s take at each column the numbers of that column's row
-pub record Interpolated (F : Field) (w : ℕ) (columns part s : List ℕ) : Type 0 where
+-- the polynomials of s take at each column the first w numbers of that column's row of d
+pub record Interpolated (F : Field) (d w : ℕ) (columns rows s : List ℕ) : Type 0 where
   pub below : Below (F .size) s
-  pub is : (j t : ℕ) → j < w → t < length columns → value F (length columns) (interleaved w s j) (getD columns t 0) ≡ interleaved w part j t
-
--- the same, where the rows that are given have 16 numbers
-pub record InterpolatedRows (F : Field) (w : ℕ) (columns rows work : List ℕ) : Type 0 where
-  pub below : Below (F .size) work
-  pub is : (j t : ℕ) → j < w → t < length columns
-      → value F (length columns) (interleaved w work j) (getD columns t 0) ≡ interleaved 16 rows j t
+  pub is : (j t : ℕ) → j < w → t < length columns → value F (length columns) (interleaved w s j) (getD columns t 0) ≡ interleaved d rows j t

@@ -9,7 +9,7 @@ use denote.Ref.{now}
 use lib.ListN.{length, take}
 use Rattle.field.proofs.Fields.{fieldOf}
 use Rattle.field.proofs.Curves.{sizes}
-use Rattle.poly.specs.inner.Interpolation.{Joinable, InterpolatedRows}
+use Rattle.poly.specs.inner.Interpolation.{Joinable, Interpolated}
 use Rattle.poly.proofs.Entries.{take-zeros}
 use Rattle.code.specs.inner.Readable.{gridAnswer}
 use Rattle.code.proofs.Stages.{columns-below, columns-short}
@@ -136,7 +136,7 @@ returns c =
     read-answer (a .q) (now (a .columns)) (now (a .word)) (s .pre .0 .whole) (a .m) (s .pre .0 .order) (take n work)
     (grid-of (a .q) (now (a .columns)) (now (a .word)) (s .pre .0 .whole) rows work (y .ensures)
     (again-long _ (few s) rows rows-long work [] work-long)
-    (subst (λ (l : List ℕ). InterpolatedRows (fieldOf (a .q)) (a .q) (now (a .columns)) l work)
+    (subst (λ (l : List ℕ). Interpolated (fieldOf (a .q)) 16 (a .q) (now (a .columns)) l work)
     (front-is _ (few s) rows rows-long) (z .ensures))) (now (a .message))
     ∙ ap (λ (l : List ℕ). gridAnswer (a .q) (a .m) l (now (a .message))) (sym (again-part _ (few s) rows rows-long work _ work-long n (short s)))
     ∙ c .before .before .read-grid .ensures

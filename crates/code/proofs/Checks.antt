@@ -5,7 +5,7 @@ use mathlib.Core.List.{List}
 use mathlib.Core.Path.{_≡_, refl, sym, ap, ap₂, _∙_}
 use Prim.Native.Nat.{ℕ, _*_, _≤_, _<_}
 use native.Mathlib.Omega.{arith}
-use borrow.Author.Tests.{lt-leb, le-leb, lt-ltb, le-ltb, eq-eqb, ne-eqb, eqb-true, leb-false, ltb-false, not-false}
+use borrow.Author.Tests.{lt-leb, lt-ltb, le-ltb, eq-eqb, ne-eqb, eqb-true, leb-false, ltb-false, not-false}
 use lib.Dec.{leb, ltb, eqb}
 use lib.ListN.{length, getD}
 use Rattle.field.specs.Curve.{isCurve, IsCurve}
@@ -14,7 +14,7 @@ use Rattle.field.specs.declared.outcome.Outcome.{Outcome}
 use Rattle.field.specs.declared.outcome.Outcome.the-variants.{Done, BadCurve, BadOrder, BadLength, BadValue, BadRoom}
 use Rattle.field.proofs.Curves.{curve-true, curve-of-true}
 pub use Rattle.field.proofs.Values.{good-symbol, good-gap, bad-gap, symbol-of-good, value-of-good, all-good, none-found}
-use Rattle.field.proofs.Outcomes.{passed, Follows, none-follow, refuse-follows}
+use Rattle.field.proofs.Outcomes.{passed, Follows, none-follow, refuse-follows, row-not-done, row-passed}
 use Rattle.code.specs.Terms.{size}
 use Rattle.code.specs.Checks.{orderChecks, badValue, firstBad, valueCheck, sliceChecks, callChecks}
 
@@ -41,7 +41,23 @@ module _ (q m : ℕ) (rest : Outcome) where
   unfolding orderChecks
   order-passed c l = rw (curve-true q c, lt-leb (q * q * q) m l)
 
--- and what 3, 4 and 5 say
+-- and 4
+pub value-rest : (gaps : Bool) (Q : ℕ) (input : List ℕ) (rest : Outcome) → valueCheck gaps Q input rest ≡ Done
+    → ((i : ℕ) → i < length input → badValue gaps Q (getD input i 0) ≡ false) × (rest ≡ Done)
+value-rest gaps Q input rest e =
+    let w = firstBad (badValue gaps Q) input in
+    let a = passed (ltb w (length input)) rest (BadValue w) (λ p. omega (arith, ap number p)) e in
+    (all-good (badValue gaps Q) input (ltb-false w (length input) (a .0)), a .1)
+
+-- how the test of the code decides 4; w is what its search found
+module _ (gaps : Bool) (Q : ℕ) (input : List ℕ) (w : ℕ) (f : w ≡ firstBad (badValue gaps Q) input) where
+  pub value-bad : w < length input → BadValue w ≡ valueCheck gaps Q input Done
+  value-bad l = rw (← f, lt-ltb w (length input) l)
+
+  pub value-good : length input ≤ w → Done ≡ valueCheck gaps Q input Done
+  value-good l = rw (← f, le-ltb w (length input) l)
+
+-- what 3, 4 and 5 say
 pub record Accepted (gaps : Bool) (Q takes : ℕ) (input : List ℕ) (writes room : ℕ) : Type 0 where
   pub long : length input ≡ takes
   pub good : (i : ℕ) → i < length input → badValue gaps Q (getD input i 0) ≡ false
@@ -52,13 +68,12 @@ pub slices-done : (gaps : Bool) (Q takes : ℕ) (input : List ℕ) (writes room 
 unfolding sliceChecks
 slices-done gaps Q takes input writes room e =
     let rest = refuse (not (eqb room writes)) BadRoom Done in
-    let w = firstBad (badValue gaps Q) input in
     let a = passed (not (eqb (length input) takes)) (valueCheck gaps Q input rest) BadLength (λ p. omega (arith, ap number p)) e in
-    let b = passed (ltb w (length input)) rest (BadValue w) (λ p. omega (arith, ap number p)) (a .1) in
+    let b = value-rest gaps Q input rest (a .1) in
     let c = passed (not (eqb room writes)) Done BadRoom (λ p. omega (arith, ap number p)) (b .1) in
     record {
       long = eqb-true (length input) takes (not-false (eqb (length input) takes) (a .0));
-      good = all-good (badValue gaps Q) input (ltb-false w (length input) (b .0));
+      good = b .0;
       fits = eqb-true room writes (not-false (eqb room writes) (c .0));
     }
 
@@ -77,40 +92,53 @@ order-follows q m =
     refuse-follows (not (isCurve q)) BadCurve (refuse (leb (q * q * q) m) BadOrder) refl
     (refuse-follows (leb (q * q * q) m) BadOrder (λ rest. rest) refl none-follow)
 
+-- check 4 before a row
+value-before : (gaps : Bool) (Q : ℕ) (input : List ℕ) (row : Outcome → Outcome) → Follows row → Follows (λ rest. valueCheck gaps Q input (row rest))
+value-before gaps Q input row f =
+    refuse-follows (ltb (firstBad (badValue gaps Q) input) (length input)) (BadValue (firstBad (badValue gaps Q) input)) row refl f
+
+pub value-follows : (gaps : Bool) (Q : ℕ) (input : List ℕ) → Follows (valueCheck gaps Q input)
+value-follows gaps Q input = value-before gaps Q input (λ rest. rest) none-follow
+
 pub slices-follow : (gaps : Bool) (Q takes : ℕ) (input : List ℕ) (writes room : ℕ) → Follows (sliceChecks gaps Q takes input writes room)
 unfolding sliceChecks
 slices-follow gaps Q takes input writes room =
     refuse-follows (not (eqb (length input) takes)) BadLength (λ rest. valueCheck gaps Q input (refuse (not (eqb room writes)) BadRoom rest)) refl
-    (refuse-follows (ltb (firstBad (badValue gaps Q) input) (length input)) (BadValue (firstBad (badValue gaps Q) input))
-    (refuse (not (eqb room writes)) BadRoom) refl
+    (value-before gaps Q input (refuse (not (eqb room writes)) BadRoom)
     (refuse-follows (not (eqb room writes)) BadRoom (λ rest. rest) refl none-follow))
 
--- how the tests of the code decide 3, 4 and 5; w is what its search found
+-- how the tests of the code decide 3 and 5; o is what 4 came to
 module _ (gaps : Bool) (Q takes : ℕ) (input : List ℕ) (writes room : ℕ) (rest : Outcome) where
   pub slices-length : (length input ≡ takes → ⊥) → sliceChecks gaps Q takes input writes room rest ≡ BadLength
   unfolding sliceChecks
   slices-length n = rw (ne-eqb (length input) takes n)
 
-  module _ (e : length input ≡ takes) (w : ℕ) (f : w ≡ firstBad (badValue gaps Q) input) where
-    past-length : sliceChecks gaps Q takes input writes room rest
-        ≡ refuse (ltb w (length input)) (BadValue w) (refuse (not (eqb room writes)) BadRoom rest)
+  module _ (e : length input ≡ takes) (o : Outcome) (v : o ≡ valueCheck gaps Q input Done) where
+    abbrev last : Outcome
+    last = refuse (not (eqb room writes)) BadRoom rest
+
+    past-length : sliceChecks gaps Q takes input writes room rest ≡ valueCheck gaps Q input last
     unfolding sliceChecks
-    past-length = rw (eq-eqb (length input) takes e, f)
+    past-length = rw (eq-eqb (length input) takes e)
 
-    pub slices-value : w < takes → sliceChecks gaps Q takes input writes room rest ≡ BadValue w
-    slices-value l = past-length ∙ rw (lt-ltb w (length input) (omega arith))
+    pub slices-value : eqb (number o) 0 ≡ false → sliceChecks gaps Q takes input writes room rest ≡ o
+    slices-value n = past-length ∙ sym (row-not-done (valueCheck gaps Q input) (value-follows gaps Q input) o v last n)
 
-    pub slices-room : takes ≤ w → (room ≡ writes → ⊥) → sliceChecks gaps Q takes input writes room rest ≡ BadRoom
-    slices-room l n = past-length ∙ rw (le-ltb w (length input) (omega arith), ne-eqb room writes n)
+    module _ (d : o ≡ Done) where
+      past-values : sliceChecks gaps Q takes input writes room rest ≡ last
+      past-values = past-length ∙ row-passed (valueCheck gaps Q input) (value-follows gaps Q input) o v last d
 
-    pub slices-passed : takes ≤ w → room ≡ writes → sliceChecks gaps Q takes input writes room rest ≡ rest
-    slices-passed l g = past-length ∙ rw (le-ltb w (length input) (omega arith), eq-eqb room writes g)
+      pub slices-room : (room ≡ writes → ⊥) → sliceChecks gaps Q takes input writes room rest ≡ BadRoom
+      slices-room n = past-values ∙ rw (ne-eqb room writes n)
+
+      pub slices-passed : room ≡ writes → sliceChecks gaps Q takes input writes room rest ≡ rest
+      slices-passed g = past-values ∙ rw (eq-eqb room writes g)
 
 pub slices-accepted : (gaps : Bool) (Q takes : ℕ) (input : List ℕ) (writes room : ℕ) (rest : Outcome) → Accepted gaps Q takes input writes room
     → sliceChecks gaps Q takes input writes room rest ≡ rest
 slices-accepted gaps Q takes input writes room rest h =
-    slices-passed gaps Q takes input writes room rest (h .long) (firstBad (badValue gaps Q) input) refl
-    (omega (arith, h .long, none-found (badValue gaps Q) input (h .good))) (h .fits)
+    slices-passed gaps Q takes input writes room rest (h .long) Done
+    (value-good gaps Q input _ refl (omega (arith, none-found (badValue gaps Q) input (h .good)))) refl (h .fits)
 
 -- past 1 and 2 the call is decided by 3, 4 and 5
 pub call-past : (gaps decodes : Bool) (q m : ℕ) (input : List ℕ) (room : ℕ) (o : Outcome) (takes writes : ℕ) → IsCurve q × (m < q * q * q)

@@ -3,7 +3,7 @@ ghost use mathlib.Core.Path.{_≡_};
 ghost use Prim.Native.Nat.{_≤_};
 ghost use lib.ListN.{length};
 ghost use Rattle.field.specs.declared.outcome.Outcome.the-variants.{Done};
-ghost use Rattle.field.specs.Values.{badValue, firstBad};
+ghost use Rattle.field.specs.Values.{badValue, firstBad, valueCheck};
 ghost use Rattle.code.specs.Checks.{orderChecks, sliceChecks, callChecks};
 ghost use Rattle.code.specs.inner.Highest.{Highest};
 use crate::term;
@@ -68,6 +68,18 @@ pub fn first_bad(gaps: bool, size: u8, values: &[u8]) -> usize
     i
 }
 
+// 4, of values whose index is a byte.
+pub fn values(gaps: bool, size: u8, input: &[u8]) -> Outcome
+    requires { ⌜ length (now input) ≤ 255 ⌝ }
+    ensures { λ r. ⌜ r ≡ valueCheck gaps size (now (input .entry)) Done ⌝ }
+{
+    let bad = first_bad(gaps, size, input);
+    if bad < input.len() {
+        return Outcome::BadValue(bad as u8);
+    }
+    Outcome::Done
+}
+
 // 3, 4 and 5.
 pub fn slices(
     gaps: bool,
@@ -83,10 +95,10 @@ pub fn slices(
     if input.len() != takes {
         return Outcome::BadLength;
     }
-    let bad = first_bad(gaps, size, input);
-    if bad < takes {
-        return Outcome::BadValue(bad as u8);
-    }
+    let checked = values(gaps, size, input);
+    let Outcome::Done = checked else {
+        return checked;
+    };
     if room != writes {
         return Outcome::BadRoom;
     }

@@ -79,8 +79,11 @@ done-or-not o e n = let f : _≡_ {A = Bool} true false = sym (ap (λ (x : Outco
     omega arith
 
 module _ (row : Outcome → Outcome) (f : Follows row) (o : Outcome) (e : o ≡ row Done) (rest : Outcome) where
+  pub row-not-done : eqb (number o) 0 ≡ false → o ≡ row rest
+  row-not-done n = ⊎-elim (λ d. absurd (done-or-not o (d .0) n)) (λ d. sym (d .1)) (f o rest (sym e))
+
   pub row-refused : OneOf refusals (tagOf the-type o) → o ≡ row rest
-  row-refused r = ⊎-elim (λ d. absurd (done-or-not o (d .0) (not-done o r))) (λ d. sym (d .1)) (f o rest (sym e))
+  row-refused r = row-not-done (not-done o r)
 
   pub row-passed : o ≡ Done → row rest ≡ rest
   row-passed d = ⊎-elim (λ h. h .1) (λ h. absurd (done-or-not o d (h .0))) (f o rest (sym e))

@@ -14,7 +14,7 @@ use Rattle.field.specs.Outcomes.{number}
 use Rattle.code.specs.Answers.{Answer}
 use Rattle.code.specs.Checks.{badValue, firstBad, sliceChecks}
 use Rattle.code.specs.Recovered.{Reading, nothing, message, several, answerOf, recoverChecks}
-use Rattle.code.proofs.Checks.{slices-value, slices-passed, call-past}
+use Rattle.code.proofs.Checks.{value-bad, value-good, slices-value, slices-passed, call-past}
 use Rattle.code.proofs.Recoveries.{readingOf, recovered-refused, recovered-answer}
 use Rattle.code.proofs.Weights.{size-from-genus}
 use Rattle.lines.specs.Page.{outcomeOf}
@@ -42,10 +42,12 @@ module _ (block : List ℕ) (long : length block ≡ 64) where
   bad-exactly =
       elim (decLt bad 64) [
         | yes h ↦
-            let refused = checked (BadValue bad) (sym (slices-value true 16 64 block 32 32 Done long bad refl h)) in
+            let found = value-bad true 16 block bad refl (omega arith) in
+            let refused = checked (BadValue bad) (sym (slices-value true 16 64 block 32 32 Done long (BadValue bad) found refl)) in
             inl (h, ap (λ (a : Answer). number (a .outcome)) (recovered-refused 4 37 block (replicate 32 0) (BadValue bad) refused refl))
         | no h ↦
-            let passed = checked Done (sym (slices-passed true 16 64 block 32 32 Done long bad refl (omega arith) refl)) in
+            let none = value-good true 16 block bad refl (omega arith) in
+            let passed = checked Done (sym (slices-passed true 16 64 block 32 32 Done long Done none refl refl)) in
             let says = sym (recovered-answer 4 37 block (replicate 32 0) passed) in
             inr (omega arith, subst (λ (a : Answer). Read (number (a .outcome))) says (answer-read (readingOf 4 37 block) (replicate 32 0)))
       ]

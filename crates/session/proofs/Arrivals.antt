@@ -3,27 +3,27 @@
 use mathlib.Core.Bool.{true, false}
 use mathlib.Core.List.{List, map, _++_}
 use mathlib.Core.Logic.{inl, inr}
-use mathlib.Core.Path.{_≡_, refl, sym, ap, _∙_}
+use mathlib.Core.Path.{_≡_, refl, sym, ap, ap₂, _∙_}
 use Prim.Native.Nat.{ℕ, _*_, _≤_, _<_}
 use native.Mathlib.Omega.{arith}
 use borrow.Author.Tests.{eq-eqb, ne-eqb, lt-leb, le-leb, lt-ltb, le-ltb, leb-false}
-use lib.Dec.{eqb, leb, ltb}
+use lib.Dec.{eqb, leb}
 use lib.ListN.{length, getD, take, drop, length-map, length-append}
 use lib.Seq.{length-take-le, take-at}
 use Rattle.field.specs.Curve.{isCurve, IsCurve, curveOf}
 use Rattle.field.specs.declared.curve.Curve.{Curve}
 use Rattle.field.specs.Outcomes.{number, refuse}
 use Rattle.field.specs.declared.outcome.Outcome.{Outcome}
-use Rattle.field.specs.declared.outcome.Outcome.the-variants.{Done, BadCurve, BadValue, BadPlace, BadSymbol}
+use Rattle.field.specs.declared.outcome.Outcome.the-variants.{Done, BadCurve, BadPlace, BadSymbol}
 use Rattle.field.proofs.Curves.{curve-true, curve-of-true, sizes}
-use Rattle.field.proofs.Outcomes.{passed}
+use Rattle.field.proofs.Outcomes.{passed, Follows, row-refused, row-passed}
 use Rattle.poly.proofs.Bools.{true-or-false}
 use Rattle.code.specs.Terms.{size}
-use Rattle.code.specs.Checks.{orderChecks, badValue, firstBad, sliceChecks}
+use Rattle.code.specs.Checks.{orderChecks, valueCheck, sliceChecks}
 use Rattle.code.specs.Answers.{answered}
 use Rattle.code.specs.Recovered.{recovered}
 use Rattle.code.proofs.Answers.{Refused, order-refused}
-use Rattle.code.proofs.Checks.{order-rest, order-curve, order-passed}
+use Rattle.code.proofs.Checks.{order-rest, order-curve, order-passed, value-rest, value-follows}
 use Rattle.code.proofs.Recoveries.{recovered-refused}
 use Rattle.session.specs.declared.ReceivedWord.{ReceivedWord}
 use Rattle.session.specs.declared.Stored.{Stored}
@@ -132,45 +132,50 @@ module _ (s : Session) (place symbol : ℕ) where
   abbrev last : (n Q : ℕ) → Outcome
   last n Q = refuse (leb n place) BadPlace (refuse (leb Q symbol) BadSymbol Done)
 
-  -- what the search for a bad value is to find
-  abbrev bad : ℕ
-  bad = firstBad (badValue true (s .q * s .q)) (receivedWord s)
+  abbrev values : Outcome → Outcome
+  values rest = valueCheck true (s .q * s .q) (receivedWord s) rest
 
-  abbrev values : Outcome
-  values = refuse (ltb bad (length (receivedWord s))) (BadValue bad) (last (s .q * s .q * s .q) (s .q * s .q))
+  values-follow : Follows values
+  values-follow = value-follows true (s .q * s .q) (receivedWord s)
+
+  abbrev past-two : Outcome
+  past-two = values (last (s .q * s .q * s .q) (s .q * s .q))
 
   pub checks-order : (o : Outcome) → o ≡ orderChecks (s .q) (s .m) Done → Refused o
       → o ≡ arrivalChecks s place symbol
   unfolding arrivalChecks
-  checks-order o e r = order-refused (s .q) (s .m) o e r values
+  checks-order o e r = order-refused (s .q) (s .m) o e r past-two
 
-  -- past 1 and 2: n and Q are the curve's, and w is what the search for a bad value found
-  pub record Searched (n Q w : ℕ) : Type 0 where
+  -- past 1 and 2: n and Q are the curve's, and o is what 4 came to
+  pub record ValuesChecked (n Q : ℕ) (o : Outcome) : Type 0 where
     pub is-curve : IsCurve (s .q)
     pub is-n : n ≡ s .q * s .q * s .q
     pub is-Q : Q ≡ s .q * s .q
     pub order : s .m < n
-    pub long : length (s .places) ≡ 64
-    pub is-w : w ≡ bad
+    pub is-o : o ≡ values Done
 
-  module _ (n Q w : ℕ) (h : Searched n Q w) where
-    past-order : arrivalChecks s place symbol ≡ refuse (ltb w n) (BadValue w) (last n Q)
+  module _ (n Q : ℕ) (o : Outcome) (h : ValuesChecked n Q o) where
+    past-order : arrivalChecks s place symbol ≡ values (last n Q)
     unfolding arrivalChecks
     past-order =
-        order-passed (s .q) (s .m) values (h .is-curve) (omega (arith, h .order, h .is-n))
-        ∙ rw (← h .is-w, length-word s (h .long) (h .is-curve), ← h .is-n, ← h .is-Q)
+        order-passed (s .q) (s .m) past-two (h .is-curve) (omega (arith, h .order, h .is-n))
+        ∙ ap₂ (λ (a b : ℕ). values (last a b)) (sym (h .is-n)) (sym (h .is-Q))
 
-    pub checks-value : w < n → arrivalChecks s place symbol ≡ BadValue w
-    checks-value a = past-order ∙ rw (lt-ltb w n a)
+    pub checks-value : Refused o → o ≡ arrivalChecks s place symbol
+    checks-value r = row-refused values values-follow o (h .is-o) (last n Q) r ∙ sym past-order
 
-    pub checks-place : n ≤ w → n ≤ place → arrivalChecks s place symbol ≡ BadPlace
-    checks-place a b = past-order ∙ rw (le-ltb w n a, le-leb n place b)
+    module _ (d : o ≡ Done) where
+      past-values : arrivalChecks s place symbol ≡ last n Q
+      past-values = past-order ∙ row-passed values values-follow o (h .is-o) (last n Q) d
 
-    pub checks-symbol : n ≤ w → place < n → Q ≤ symbol → arrivalChecks s place symbol ≡ BadSymbol
-    checks-symbol a b d = past-order ∙ rw (le-ltb w n a, lt-leb n place b, le-leb Q symbol d)
+      pub checks-place : n ≤ place → arrivalChecks s place symbol ≡ BadPlace
+      checks-place b = past-values ∙ rw (le-leb n place b)
 
-    pub checks-done : n ≤ w → place < n → symbol < Q → arrivalChecks s place symbol ≡ Done
-    checks-done a b d = past-order ∙ rw (le-ltb w n a, lt-leb n place b, lt-leb Q symbol d)
+      pub checks-symbol : place < n → Q ≤ symbol → arrivalChecks s place symbol ≡ BadSymbol
+      checks-symbol b l = past-values ∙ rw (lt-leb n place b, le-leb Q symbol l)
+
+      pub checks-done : place < n → symbol < Q → arrivalChecks s place symbol ≡ Done
+      checks-done b l = past-values ∙ rw (lt-leb n place b, lt-leb Q symbol l)
 
   -- an arrival past its checks has a place of the curve
   pub checked-place : arrivalChecks s place symbol ≡ Done → IsCurve (s .q) × (place < s .q * s .q * s .q)
@@ -178,8 +183,8 @@ module _ (s : Session) (place symbol : ℕ) where
   checked-place e =
       let n = s .q * s .q * s .q in
       let Q = s .q * s .q in
-      let a = order-rest (s .q) (s .m) values e in
-      let b = passed (ltb bad (length (receivedWord s))) (last n Q) (BadValue bad) (λ p. omega (arith, ap number p)) (a .2) in
+      let a = order-rest (s .q) (s .m) past-two e in
+      let b = value-rest true Q (receivedWord s) (last n Q) (a .2) in
       let d = passed (leb n place) (refuse (leb Q symbol) BadSymbol Done) BadPlace (λ p. omega (arith, ap number p)) (b .1) in
       (a .0, leb-false n place (d .0))
 

@@ -2,7 +2,7 @@
 -- Assumes nothing.
 use mathlib.Core.Bool.{true}
 use mathlib.Core.List.{List, map}
-use mathlib.Core.Path.{_≡_, refl, sym, _∙_}
+use mathlib.Core.Path.{_≡_, refl, _∙_}
 use Prim.Native.Nat.{ℕ, _*_, _<_}
 use native.Mathlib.Omega.{arith}
 use lib.ListN.{length, length-map}
@@ -10,7 +10,7 @@ use Rattle.field.specs.Curve.{IsCurve}
 use Rattle.field.specs.declared.outcome.Outcome.{Outcome}
 use Rattle.field.specs.declared.outcome.Outcome.the-variants.{Done, BadRoom}
 use Rattle.code.specs.Terms.{size}
-use Rattle.code.specs.Checks.{badValue, firstBad, sliceChecks}
+use Rattle.code.specs.Checks.{valueCheck, sliceChecks}
 use Rattle.code.specs.Answers.{answered}
 use Rattle.code.specs.Recovered.{answerOf, recoverChecks, recovered}
 use Rattle.code.proofs.Checks.{order-passed, slices-passed, slices-room}
@@ -18,7 +18,7 @@ use Rattle.code.proofs.Recoveries.{readingOf, recovered-refused, recovered-answ
 use Rattle.session.specs.declared.Session.{Session}
 use Rattle.session.specs.Asked.{asked}
 use Rattle.session.specs.ReferenceModel.{Model}
-use Rattle.session.proofs.Steps.{receivedValue, none-bad, Represents, received-word}
+use Rattle.session.proofs.Steps.{receivedValue, values-pass, Represents, received-word}
 
 module _ (q m : ℕ) (curve : IsCurve q) (order : m < q * q * q)
     (places rounds : List ℕ) (model : Model) (h : Represents q places rounds model) (slice : List ℕ) where
@@ -32,8 +32,8 @@ module _ (q m : ℕ) (curve : IsCurve q) (order : m < q * q * q)
   long : length (map receivedValue model) ≡ q * q * q
   long = length-map model receivedValue ∙ h .len
 
-  searched : q * q * q ≡ firstBad (badValue true (q * q)) (map receivedValue model)
-  searched = sym (none-bad (q * q) model (h .small) ∙ h .len)
+  good : Done ≡ valueCheck true (q * q) (map receivedValue model) Done
+  good = values-pass (q * q) model (h .small)
 
   -- what the checks 3, 4 and 5 come to
   abbrev slices : Outcome
@@ -47,11 +47,11 @@ module _ (q m : ℕ) (curve : IsCurve q) (order : m < q * q * q)
       is-recovered
       ∙ recovered-answer q m (map receivedValue model) slice
       (checks
-      ∙ slices-passed true (q * q) (q * q * q) (map receivedValue model) (size q m) (length slice) Done long (q * q * q) searched (omega arith) e)
+      ∙ slices-passed true (q * q) (q * q * q) (map receivedValue model) (size q m) (length slice) Done long Done good refl e)
 
   pub asks-room : (length slice ≡ size q m → ⊥) → asked now slice ≡ answered BadRoom slice
   asks-room n =
       is-recovered
       ∙ recovered-refused q m (map receivedValue model) slice BadRoom
       (checks
-      ∙ slices-room true (q * q) (q * q * q) (map receivedValue model) (size q m) (length slice) Done long (q * q * q) searched (omega arith) n) refl
+      ∙ slices-room true (q * q) (q * q * q) (map receivedValue model) (size q m) (length slice) Done long Done good refl n) refl

@@ -10,7 +10,7 @@ use native.Mathlib.Decide.{ℕ-discrete, decLt}
 use native.Mathlib.Omega.{arith}
 use borrow.Author.Tests.{lt-ltb, le-ltb, ne-eqb}
 use lib.Dec.{T, eqb, ltb}
-use lib.ListN.{length, getD, take, drop, set, replicate, length-set, length-replicate}
+use lib.ListN.{length, getD, take, drop, set, replicate, length-map, length-set, length-replicate}
 use lib.Seq.{getD-take, take-set-lt, drop-set-lt, getD-set-same, getD-set-other}
 use Rattle.field.specs.Curve.{IsCurve}
 use Rattle.field.specs.Outcomes.{number}
@@ -18,14 +18,14 @@ use Rattle.field.specs.declared.outcome.Outcome.{Outcome}
 use Rattle.field.specs.declared.outcome.Outcome.the-variants.{Done, BadPlace, BadSymbol}
 use Rattle.field.proofs.Curves.{sizes}
 use Rattle.poly.proofs.Lists.{getD-map, map-set}
-use Rattle.code.specs.Checks.{orderChecks, badValue, firstBad}
-use Rattle.code.proofs.Checks.{order-done, good-symbol, good-gap}
+use Rattle.code.specs.Checks.{orderChecks, badValue, firstBad, valueCheck}
+use Rattle.code.proofs.Checks.{order-done, good-symbol, good-gap, value-good}
 use Rattle.session.specs.declared.Session.{Session}
 use Rattle.session.specs.declared.Reply.{Reply}
 use Rattle.session.specs.Opened.{opened}
 use Rattle.session.specs.Arrived.{conflictAsMissing, stored, merged, arrivalChecks, reply, withStored, arrived}
 use Rattle.session.specs.ReferenceModel.{Place, missing, symbol, conflict, Model, emptyModel, updated, inRange, accepts, afterArrival}
-use Rattle.session.proofs.Arrivals.{opened-outcome, opened-done, Searched, checks-place, checks-symbol, checks-done}
+use Rattle.session.proofs.Arrivals.{opened-outcome, opened-done, ValuesChecked, checks-place, checks-symbol, checks-done}
 use Rattle.session.proofs.Arrivals.{no-conflict, arrived-refused, arrived-merged}
 
 -- ---- one place
@@ -110,12 +110,16 @@ small-set Q model p o l k h i s r e =
       | no d ↦ h i s r (sym (getD-set-other model p i o missing d) ∙ e)
     ]
 
-pub none-bad : (Q : ℕ) (model : Model) → Small Q model → firstBad (badValue true Q) (map receivedValue model) ≡ length model
+none-bad : (Q : ℕ) (model : Model) → Small Q model → firstBad (badValue true Q) (map receivedValue model) ≡ length model
 unfolding firstBad
 none-bad Q [] h = refl
 none-bad Q (missing ∷ model) h = rw (good-gap Q 255 refl) (ap suc (none-bad Q model (λ p. h (suc p))))
 none-bad Q (symbol s r ∷ model) h = rw (good-symbol true Q s (h 0 s r refl)) (ap suc (none-bad Q model (λ p. h (suc p))))
 none-bad Q (conflict r ∷ model) h = rw (good-gap Q 255 refl) (ap suc (none-bad Q model (λ p. h (suc p))))
+
+pub values-pass : (Q : ℕ) (model : Model) → Small Q model → Done ≡ valueCheck true Q (map receivedValue model) Done
+values-pass Q model h =
+    value-good true Q (map receivedValue model) (length model) (sym (none-bad Q model h)) (omega (arith, length-map model receivedValue))
 
 received-model : (Q : ℕ) → Q ≤ 254 → (model : Model) → Small Q model → map conflictAsMissing (map storedValue model) ≡ map receivedValue model
 received-model Q apart [] h = refl
@@ -223,15 +227,14 @@ module _ (q m : ℕ) (curve : IsCurve q) (order : m < q * q * q)
   matches = record { places = places; rounds = rounds; is = refl; represents = h }
 
   -- the checks 1, 2 and 4 pass
-  searched : Searched now p s (q * q * q) (q * q) (q * q * q)
-  searched =
+  checked : ValuesChecked now p s (q * q * q) (q * q) Done
+  checked =
       record {
         is-curve = curve;
         is-n = refl;
         is-Q = refl;
         order = order;
-        long = h .places-are .room;
-        is-w = sym (ap (firstBad (badValue true (q * q))) (received-word q curve places rounds model h) ∙ none-bad (q * q) model (h .small) ∙ h .len);
+        is-o = rw (received-word q curve places rounds model h) (values-pass (q * q) model (h .small));
       }
 
   -- by the reply and the model after it
@@ -257,7 +260,7 @@ module _ (q m : ℕ) (curve : IsCurve q) (order : m < q * q * q)
       (copies-at (q * q * q) storedRound rounds model (h .rounds-are) p l here)
       ∙ merged-stored (q * q) apart s r k o (h .small p) in
       step-is (reply (withStored now p (stored (storedValue then) (storedRound then))) Done) (set model p then)
-      (arrived-merged now p s r Done (sym (checks-done now p s _ _ _ searched (omega arith) l k)) refl _ (sym merges))
+      (arrived-merged now p s r Done (sym (checks-done now p s _ _ _ checked refl l k)) refl _ (sym merges))
       (after-in-range q model p s r w)
       (rw (accepts-is q model p s r, w) (λ e. tt, λ t. refl))
       (record {
@@ -278,10 +281,10 @@ module _ (q m : ℕ) (curve : IsCurve q) (order : m < q * q * q)
       go : Dec (p < q * q * q) → Dec (s < q * q) → Step q m now model p s r
       go (yes l) (yes k) = accepted-step l k
       go (yes l) (no k) =
-          refused-step BadSymbol (checks-symbol now p s _ _ _ searched (omega arith) l (omega arith)) refl (λ e. omega (arith, ap number e))
+          refused-step BadSymbol (checks-symbol now p s _ _ _ checked refl l (omega arith)) refl (λ e. omega (arith, ap number e))
           (rw (lt-ltb p (q * q * q) l, le-ltb s (q * q) (omega arith)))
       go (no l) k =
-          refused-step BadPlace (checks-place now p s _ _ _ searched (omega arith) (omega arith)) refl (λ e. omega (arith, ap number e))
+          refused-step BadPlace (checks-place now p s _ _ _ checked refl (omega arith)) refl (λ e. omega (arith, ap number e))
           (rw (le-ltb p (q * q * q) (omega arith)))
 
 pub step : (q m : ℕ) → IsCurve q → m < q * q * q → (session : Session) (model : Model) → Match q m session model → (p s r : ℕ)

@@ -142,10 +142,10 @@ impl Session {
         let word = self.received_word();
         let n = word.points;
         let places = word.places;
-        let bad = code::check::first_bad(true, word.symbols, &places[..n]);
-        if bad < n {
-            return Outcome::BadValue(bad as u8);
-        }
+        let second = code::check::values(true, word.symbols, &places[..n]);
+        let Outcome::Done = second else {
+            return second;
+        };
         if n <= place as usize {
             return Outcome::BadPlace;
         }

@@ -24,6 +24,10 @@ use Rattle.code.proofs.FullColumns.{length-upTo, readable}
 use Rattle.code.proofs.unencoding.unencode.Statement.{statement}
 use Rattle.code.proofs.unencoding.unencode.Tie as tie
 
+returns : tie.Need-returns
+unfolding unencoded
+returns c = let x = c .before .before .before .before .args in entry-refused _ _ (now (x .message)) _ (c .before .call .ensures) (c .match .keys2)
+
 -- past the checks
 passed : (c : tie.After-enum-told) → let x = c .before .before .before .before .before .args in
     IsCurve (x .q) × (x .m < x .q * x .q * x .q) × Accepted false (x .q * x .q) (x .q * x .q * x .q) (now (x .word)) (size (x .q) (x .m))
@@ -48,10 +52,6 @@ call-requires c κs = search needs
 
 enum-told : tie.Need-enum-told
 enum-told c = search needs
-
-returns : tie.Need-returns
-unfolding unencoded
-returns c = let x = c .before .before .before .before .args in entry-refused _ _ (now (x .message)) _ (c .before .call .ensures) (c .match .keys2)
 
 tree-requires : tie.Need-tree-requires
 tree-requires c κs = passed c .0

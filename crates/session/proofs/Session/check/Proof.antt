@@ -10,9 +10,10 @@ use lib.ListN.{length, length-map}
 use lib.Seq.{length-take-le}
 use Rattle.field.specs.Curve.{IsCurve}
 use Rattle.field.proofs.Curves.{sizes}
-use Rattle.code.specs.Checks.{badValue, firstBad}
+use Rattle.field.specs.declared.outcome.Outcome.the-variants.{Done}
+use Rattle.code.specs.Checks.{valueCheck}
 use Rattle.code.proofs.Checks.{order-done}
-use Rattle.session.proofs.Arrivals.{reads, read-room, Searched}
+use Rattle.session.proofs.Arrivals.{reads, read-room, ValuesChecked}
 use Rattle.session.proofs.Arrivals.{checks-order, checks-value, checks-place, checks-symbol, checks-done}
 use Rattle.session.proofs.Session.check.Statement.{statement}
 use Rattle.session.proofs.Session.check.Tie as tie
@@ -32,13 +33,13 @@ long c = sym (length-map (start c .args .self .places) _) ∙ start c .good .0 .
 room : (c : tie.After-received-word) → c .received-word .result .points ≤ length (c .received-word .result .places)
 room c = read-room (start c .args .self) (long c) (c .received-word .result) (c .received-word .ensures)
 
--- past the search for a bad value
-abbrev word : (c : tie.After-first-bad) → tie.After-received-word
+-- past the check of the values
+abbrev word : (c : tie.After-values) → tie.After-received-word
 word c = c .before .before .before
 
-searched : (c : tie.After-first-bad) → let x = start (word c) .args in let w = word c .received-word .result in
-    Searched (x .self) (x .place) (x .symbol) (w .points) (w .symbols) (c .first-bad .result)
-searched c =
+checked : (c : tie.After-values) → let x = start (word c) .args in let w = word c .received-word .result in
+    ValuesChecked (x .self) (x .place) (x .symbol) (w .points) (w .symbols) (c .values .result)
+checked c =
     let s = start (word c) .args .self in
     let o = ordered (word c) in
     let read = reads s (long (word c)) _ (word c .received-word .ensures) (o .0) in
@@ -47,8 +48,7 @@ searched c =
       is-n = read .is-n;
       is-Q = read .is-Q;
       order = omega (arith, read .is-n, o .1);
-      long = long (word c);
-      is-w = c .first-bad .ensures ∙ ap₂ (λ (Q : ℕ) (v : List ℕ). firstBad (badValue true Q) v) (read .is-Q) (read .word);
+      is-o = c .values .ensures ∙ ap₂ (λ (Q : ℕ) (v : List ℕ). valueCheck true Q v Done) (read .is-Q) (read .word);
     }
 
 cast-order : tie.Need-cast-order
@@ -71,40 +71,49 @@ received-word-requires c κs = search needs
 array-share-prefix-places : tie.Need-array-share-prefix-places
 array-share-prefix-places c = room (c .before)
 
-slice-aggregate-first-bad : tie.Need-slice-aggregate-first-bad
-slice-aggregate-first-bad c = sym (length-take-le _ _ (room (c .before .before)))
+slice-aggregate-values : tie.Need-slice-aggregate-values
+slice-aggregate-values c = sym (length-take-le _ _ (room (c .before .before)))
 
-first-bad-requires : tie.Need-first-bad-requires
-first-bad-requires c κs = search needs
+values-requires : tie.Need-values-requires
+values-requires c κs =
+    let r = c .before .before in
+    let w = r .received-word .result in
+    let curve = ordered r .0 in
+    omega (
+      arith,
+      length-take-le (w .points) (w .places) (room r),
+      reads (start r .args .self) (long r) w (r .received-word .ensures) curve .is-n,
+      sizes _ curve .points,
+    )
 
-cast-t13 : tie.Need-cast-t13
-cast-t13 c = let h = searched (c .before) in omega (arith, c .if1 .taken, h .is-n, sizes _ (h .is-curve) .points)
+enum-told-2 : tie.Need-enum-told-2
+enum-told-2 c = search needs
 
 returns-2 : tie.Need-returns-2
 returns-2 c =
     let s = c .before in
     let x = start (word s) .args in
-    sym (checks-value (x .self) (x .place) (x .symbol) _ _ _ (searched s) (c .if1 .taken))
+    checks-value (x .self) (x .place) (x .symbol) _ _ _ (checked s) (c .match2 .keys2)
 
 returns-3 : tie.Need-returns-3
 returns-3 c =
-    let s = c .before .before in
+    let s = c .before .before .before in
     let x = start (word s) .args in
-    sym (checks-place (x .self) (x .place) (x .symbol) _ _ _ (searched s) (c .before .if1 .left) (c .if2 .taken))
+    sym (checks-place (x .self) (x .place) (x .symbol) _ _ _ (checked s) (c .before .enum-told2 .given .1) (c .if1 .taken))
 
 returns-4 : tie.Need-returns-4
 returns-4 c =
-    let s = c .before .before .before .before in
+    let s = c .before .before .before .before .before in
     let x = start (word s) .args in
-    sym (checks-symbol (x .self) (x .place) (x .symbol) _ _ _ (searched s) (c .before .before .before .if1 .left) (c .before .before .if2 .left)
-    (c .if3 .taken))
+    sym (checks-symbol (x .self) (x .place) (x .symbol) _ _ _ (checked s) (c .before .before .before .enum-told2 .given .1)
+    (c .before .before .if1 .left) (c .if2 .taken))
 
 returns-5 : tie.Need-returns-5
 returns-5 c =
-    let s = c .before .before .before .before in
+    let s = c .before .before .before .before .before in
     let x = start (word s) .args in
-    sym (checks-done (x .self) (x .place) (x .symbol) _ _ _ (searched s) (c .before .before .before .if1 .left) (c .before .before .if2 .left)
-    (c .if3 .left))
+    sym (checks-done (x .self) (x .place) (x .symbol) _ _ _ (checked s) (c .before .before .before .enum-told2 .given .1)
+    (c .before .before .if1 .left) (c .if2 .left))
 
 pub check-spec : {M : Type 1} → statement M
 check-spec =
@@ -116,9 +125,9 @@ check-spec =
     returns
     received-word-requires
     array-share-prefix-places
-    slice-aggregate-first-bad
-    first-bad-requires
-    cast-t13
+    slice-aggregate-values
+    values-requires
+    enum-told-2
     returns-2
     returns-3
     returns-4

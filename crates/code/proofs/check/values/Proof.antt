@@ -13,10 +13,14 @@ cast-t7 : tie.Need-cast-t7
 cast-t7 c = search needs
 
 returns : tie.Need-returns
-returns c = let x = c .before .before .before .args in value-bad (x .gaps) (x .size) (now (x .input)) _ (c .before .first-bad .ensures) (c .if1 .taken)
+returns c =
+    let x = c .before .before .before .args in
+    value-bad (x .gaps) (x .size) (now (x .input)) _ (c .before .first-bad .ensures) (c .if1 .taken)
 
 returns-2 : tie.Need-returns-2
-returns-2 c = let x = c .before .before .before .args in value-good (x .gaps) (x .size) (now (x .input)) _ (c .before .first-bad .ensures) (c .if1 .left)
+returns-2 c =
+    let x = c .before .before .before .args in
+    value-good (x .gaps) (x .size) (now (x .input)) _ (c .before .first-bad .ensures) (c .if1 .left)
 
 pub values-spec : {M : Type 1} → statement M
 values-spec =

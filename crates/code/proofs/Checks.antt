@@ -41,7 +41,7 @@ module _ (q m : ℕ) (rest : Outcome) where
   unfolding orderChecks
   order-passed c l = rw (curve-true q c, lt-leb (q * q * q) m l)
 
--- and 4
+-- what it says that check 4 and all that follows come out Done
 pub value-rest : (gaps : Bool) (Q : ℕ) (input : List ℕ) (rest : Outcome) → valueCheck gaps Q input rest ≡ Done
     → ((i : ℕ) → i < length input → badValue gaps Q (getD input i 0) ≡ false) × (rest ≡ Done)
 value-rest gaps Q input rest e =

@@ -1,6 +1,6 @@
 -- INTERPOLATION, in plain terms. Let the columns be c different places, and rows a list of c rows of d symbols, of which the first w count, w at
 -- most the field's size. There is one list, and only one, of w * c symbols whose sum in two variables is at each column x that column's row, as a
--- polynomial in y; and with d = 16 it is what `interpolate` leaves. Document 01: "Every word has an interpolating polynomial."
+-- polynomial in y; and with d = 16 it is what `interpolate` leaves.
 -- Assumes nothing.
 use mathlib.Core.Path.{_≡_, sym, ap, ap₂, _∙_}
 use mathlib.Core.List.{List}

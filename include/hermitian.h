@@ -1,12 +1,13 @@
 /*
- * Hermitian block code of the strap link: the three entries that C calls.
+ * Hermitian block code of the strap link: the four entries that C calls.
  *
- * The library turns a message of k symbols into a word of n symbols (values of
- * a polynomial at the n points of a Hermitian curve), reads whole words back,
- * and recovers messages from words with missing symbols. It is written and
- * proved in Rattle: on memory lent as described under "Memory" below, every
- * call returns, stays within its buffers and gives the one answer of the rules.
- * It doesn't correct wrong symbols; it says when no message fits.
+ * The library turns a message of k symbols into a word of n symbols (a codeword:
+ * values of a polynomial at the n points of a Hermitian curve), reads whole words
+ * back, recovers messages from words with missing symbols, and mends whole words
+ * with wrong symbols. It is written and proved in Rattle: on memory lent as
+ * described under "Memory" below, every call returns, stays within its buffers
+ * and gives the one answer of the rules. Only hermitian_mend corrects wrong
+ * symbols; the other calls say when no message fits.
  *
  *   q   curve number   n, length of a word   symbols     order m
  *   2   small curve     8                    0 to 3      0 to 7
@@ -14,24 +15,25 @@
  *
  * The strap uses q = 4, m = 37, k = 32. hermitian_message_length gives k for
  * every q and m. One symbol is one byte. m + 1 symbols of a word are always
- * enough to recover its message; fewer may be.
+ * enough to recover its message; fewer may be. Up to t wrong symbols of a whole
+ * word are always mended, t being 10 for the strap.
  *
  * Memory. The library trusts these four points and can't check them:
  *   - Each pointer is good for as many bytes as the length beside it says.
  *   - No pointer is NULL, not even beside the length 0: pass the address of any
  *     object there. A NULL may work by luck, but nothing is promised of it.
- *   - The two buffers of a call don't overlap.
- *   - No other thread writes either buffer, or reads the output, meanwhile.
+ *   - No two buffers of a call overlap.
+ *   - No other thread writes one of them, or reads an output, meanwhile.
  * Nor does anything check this header against the library's source: the two
  * are compared by tests (host/README.md).
  * Any length and any content are allowed: a wrong one is refused. The input is
  * never written. LENT OUTPUT IS UNCHANGED ON A REFUSAL.
  *
  * Threads. There is no state outside a call: no globals, no heap, no setup. Any
- * number of threads may call at once, each with an output buffer of its own;
- * they may share an input. As built now, a call takes less than 8 KiB of stack
- * (measured and not proved: most is 7352 bytes, to recover a whole word); from
- * the platform it needs memcpy and memset.
+ * number of threads may call at once, each with output buffers of its own; they
+ * may share an input. As built now, a call takes less than 10 KiB of stack
+ * (measured and not proved: most is 9592 bytes, to mend, and of the other calls
+ * 5560, to recover); from the platform it needs memcpy and memset.
  *
  * Linking. `rt staticlib hermitian` writes target/staticlib/libhermitian.a, for
  * x86-64.
@@ -50,9 +52,10 @@ extern "C" {
 #define HERMITIAN_MISSING 255
 
 /*
- * Why a call was refused. The checks run in this order, and the first that
- * applies decides. 6 and 7 belong to receiving sessions, which C doesn't call;
- * the entries below never give them. 8 no longer occurs.
+ * Why a call was refused. The checks run in this order, only 12 comes right
+ * after 2, and the first that applies decides. 6 and 7 belong to receiving
+ * sessions, which C doesn't call; the entries below never give them. 8 no longer
+ * occurs.
  */
 enum hermitian_refusal {
     HERMITIAN_DONE = 0,
@@ -65,7 +68,8 @@ enum hermitian_refusal {
     /* An input byte is no symbol. Second number: the lowest index of such a
        byte, from 0. */
     HERMITIAN_NOT_A_SYMBOL = 4,
-    /* The output isn't as long as it must be: n for a word, k for a message. */
+    /* An output isn't as long as it must be: n for a word and for marks, k for a
+       message. */
     HERMITIAN_WRONG_OUTPUT_LENGTH = 5,
     /* Sessions: the place of an arrival is n or more. */
     HERMITIAN_PLACE_TOO_HIGH = 6,
@@ -75,7 +79,12 @@ enum hermitian_refusal {
     HERMITIAN_NO_MESSAGE_FITS = 9,
     /* Too much is missing: two or more messages fit. Second number: r, where
        exactly (q * q) to the power r messages fit. Only from recover. */
-    HERMITIAN_SEVERAL_MESSAGES_FIT = 10
+    HERMITIAN_SEVERAL_MESSAGES_FIT = 10,
+    /* No codeword differs from the word in at most t places. Only from mend. */
+    HERMITIAN_NO_CODEWORD_NEAR = 11,
+    /* n - m - 1 is less than g, so nothing is mended at this order: m is above 6
+       (q = 2) or above 57 (q = 4). Only from mend. */
+    HERMITIAN_ORDER_TOO_HIGH_TO_MEND = 12
 };
 
 /* Writes the word of a message: message_length must be k, word_length n. */
@@ -94,6 +103,19 @@ uint32_t hermitian_unencode(uint8_t q, uint8_t m,
 uint32_t hermitian_recover(uint8_t q, uint8_t m,
                            const uint8_t *word, size_t word_length,
                            uint8_t *message, size_t message_length);
+
+/* Mends a whole word with wrong symbols: finds the only codeword that differs
+   from it in at most t places, t being n - m - 1 - g halved and rounded down, where
+   g is 1 (q = 2) or 6 (q = 4); at t = 0 only codewords pass. Writes its message,
+   the codeword, and n marks, 1 where a symbol was changed and 0 elsewhere: the
+   count of changes is that of the ones. word_length, mended_length and
+   marks_length must be n, message_length k. HERMITIAN_MISSING counts as a bad
+   value here. */
+uint32_t hermitian_mend(uint8_t q, uint8_t m,
+                        const uint8_t *word, size_t word_length,
+                        uint8_t *message, size_t message_length,
+                        uint8_t *mended, size_t mended_length,
+                        uint8_t *marks, size_t marks_length);
 
 /* What a call returned is 0 if it was done; otherwise it is the refusal number
    times 65536 plus the second number, which is 0 unless said above. */

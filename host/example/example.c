@@ -1,5 +1,6 @@
-/* One message on its way: encoded, partly lost, recovered; then what a refusal
- * looks like. Returns 1 if anything isn't as it should be. */
+/* One message on its way: encoded, partly lost, recovered, and with wrong symbols
+ * mended; then what a refusal looks like. Returns 1 if anything isn't as it should
+ * be. */
 #include <stdio.h>
 #include <string.h>
 
@@ -56,6 +57,12 @@ static void explain(uint32_t answer) {
     case HERMITIAN_SEVERAL_MESSAGES_FIT:
         printf("  refused: too many symbols are missing; 16^%u messages fit\n", second);
         break;
+    case HERMITIAN_NO_CODEWORD_NEAR:
+        puts("  refused: too many symbols are wrong; no codeword is near");
+        break;
+    case HERMITIAN_ORDER_TOO_HIGH_TO_MEND:
+        puts("  refused: nothing is mended at this order");
+        break;
     default:
         printf("  refused: number %u, which this program doesn't know\n",
                hermitian_number(answer));
@@ -76,6 +83,13 @@ static void lose(uint8_t word[N], size_t count) {
     }
 }
 
+/* Changes the symbols at the first `count` of the same places. */
+static void damage(uint8_t word[N], size_t count) {
+    for (size_t i = 0; i < count; i++) {
+        word[5 * i % N] ^= 6;
+    }
+}
+
 static void encode_and_unencode(const uint8_t message[K], uint8_t word[N]) {
     uint8_t read[K] = {0};
     expect(hermitian_encode(Q, M, message, K, word, N) == HERMITIAN_DONE, "the message is encoded");
@@ -93,6 +107,32 @@ static void lose_and_recover(const uint8_t message[K], const uint8_t word[N]) {
     expect(hermitian_recover(Q, M, broken, N, read, K) == HERMITIAN_DONE,
            "the message is recovered with 26 symbols missing");
     expect(memcmp(read, message, K) == 0, "it is the message that was sent");
+}
+
+static void damage_and_mend(const uint8_t message[K], const uint8_t word[N]) {
+    uint8_t wrong[N];
+    uint8_t read[K] = {0};
+    uint8_t mended[N] = {0};
+    uint8_t marks[N] = {0};
+    unsigned changes = 0;
+    memcpy(wrong, word, N);
+    damage(wrong, 10);
+    show("arrived:  ", wrong, N);
+    expect(hermitian_mend(Q, M, wrong, N, read, K, mended, N, marks, N) == HERMITIAN_DONE,
+           "the word is mended with 10 symbols wrong");
+    show("mended:   ", mended, N);
+    show("changed:  ", marks, N);
+    for (size_t i = 0; i < N; i++) {
+        changes += marks[i];
+    }
+    expect(changes == 10 && memcmp(mended, word, N) == 0 && memcmp(read, message, K) == 0,
+           "10 changes give back the word and the message that were sent");
+
+    memcpy(wrong, word, N);
+    damage(wrong, 14);
+    uint32_t answer = hermitian_mend(Q, M, wrong, N, read, K, mended, N, marks, N);
+    explain(answer);
+    expect(hermitian_number(answer) == HERMITIAN_NO_CODEWORD_NEAR, "14 wrong symbols are too many");
 }
 
 static void refuse(const uint8_t word[N]) {
@@ -133,6 +173,7 @@ int main(void) {
     show("message:  ", message, K);
     encode_and_unencode(message, word);
     lose_and_recover(message, word);
+    damage_and_mend(message, word);
     refuse(word);
     puts(failures == 0 ? "all as expected" : "SOMETHING FAILED");
     return failures == 0 ? 0 : 1;

@@ -92,6 +92,37 @@ fn slice_case(session: Session, record: [u8; 160]) {
     );
 }
 
+fn mend_answer(q: u8, m: u8, word: &[u8], message: &mut [u8], mended: &mut [u8], marks: &mut [u8]) {
+    let reply = mend::mend(q, m, word, message, mended, marks);
+    let outcome = reply.outcome;
+    let count = reply.count;
+    print_answer(b'm', outcome);
+    print_number(count);
+    io::write_all(STDOUT_FILENO, &[b' ']);
+    print_values(message, b' ');
+    print_values(mended, b' ');
+    print_values(marks, b'\n');
+}
+
+// Each slice of the mender is lent from a copy of the record of its own.
+fn mend_case(record: [u8; 160]) {
+    let mut message = record;
+    let mut mended = record;
+    let mut marks = record;
+    let word_end = 8 + room(record[3] as usize);
+    let message_end = 80 + room(record[4] as usize);
+    let mended_end = 80 + room(record[5] as usize);
+    let marks_end = 80 + room(record[6] as usize);
+    mend_answer(
+        record[1],
+        record[2],
+        &record[8..word_end],
+        &mut message[80..message_end],
+        &mut mended[80..mended_end],
+        &mut marks[80..marks_end],
+    );
+}
+
 // A session with the places and rounds of a record.
 fn raw_session(record: [u8; 160]) -> Session {
     let mut places = [0u8; 64];
@@ -145,6 +176,10 @@ fn run_case(session: Session, record: [u8; 160]) -> Session {
             session
         }
         b'o' | b's' | b'a' => session_case(session, record),
+        b'm' => {
+            mend_case(record);
+            session
+        }
         _ => {
             slice_case(session, record);
             session

@@ -1,23 +1,21 @@
 -- Entries: what is answered where the checks refuse, and where they come out Done.
 -- Assumes nothing.
-use mathlib.Core.Bool.{Bool, true, false, cond}
+use mathlib.Core.Bool.{Bool, false, cond}
 use mathlib.Core.List.{List}
-use mathlib.Core.Logic.{_⊎_, inl, inr, ⊎-elim}
+use mathlib.Core.Logic.{⊎-elim}
 use mathlib.Core.Path.{_≡_, refl, sym, ap, _∙_}
 use Prim.Native.Nat.{ℕ}
-use native.Mathlib.Omega.{arith}
 use lib.Dec.{eqb}
-use lib.ListN.{length}
 use types.Run.{OneOf}
 use denote.Enum.Declared.{tagOf}
 use Rattle.field.specs.Outcomes.{number}
 use Rattle.field.specs.declared.outcome.Outcome.{Outcome}
 use Rattle.field.specs.declared.outcome.Outcome.the-variants.{Done}
-use Rattle.field.proofs.Outcomes.{refusals, not-done, done-or-not, row-refused}
+use Rattle.field.proofs.Outcomes.{done-or-refused, refusals, not-done, done-or-not, row-refused}
 use Rattle.field.proofs.outcome.Outcome.{the-type}
 use Rattle.code.specs.Checks.{orderChecks, sliceChecks}
 use Rattle.code.specs.Answers.{Answer, answered, unlessRefused}
-use Rattle.code.proofs.Checks.{order-follows, slices-follow}
+use Rattle.code.proofs.Checks.{order-follows}
 
 -- a refusal, as the arm that returns it is told of it
 abbrev pub Refused : Outcome → Type 0
@@ -44,16 +42,8 @@ module _ (q m : ℕ) (gaps : Bool) (Q takes : ℕ) (input : List ℕ) (writes ro
   abbrev both : Outcome
   both = orderChecks q m (sliceChecks gaps Q takes input writes room Done)
 
-  decided : (both ≡ Done) ⊎ (eqb (number both) 0 ≡ false)
-  decided =
-      let S = sliceChecks gaps Q takes input writes room Done in
-      ⊎-elim
-      (λ a. ⊎-elim (λ b. inl (a .1 ∙ b .0)) (λ b. inr (ap (λ (x : Outcome). eqb (number x) 0) (a .1) ∙ b .0))
-      (slices-follow gaps Q takes input writes room S Done refl))
-      (λ a. inr (ap (λ (x : Outcome). eqb (number x) 0) (a .1) ∙ a .0)) (order-follows q m (orderChecks q m Done) S refl)
-
   pub past-checks : (slice v : List ℕ) (answer : Answer) → unlessRefused both slice answer ≡ answered Done v
       → (both ≡ Done) × (answer ≡ answered Done v)
   past-checks slice v answer e =
       ⊎-elim (λ d. (d, sym (not-refused both slice answer d) ∙ e))
-      (λ n. absurd (done-or-not both (ap (λ (a : Answer). a .outcome) (sym (refused both both slice answer refl n) ∙ e)) n)) decided
+      (λ n. absurd (done-or-not both (ap (λ (a : Answer). a .outcome) (sym (refused both both slice answer refl n) ∙ e)) n)) (done-or-refused both)

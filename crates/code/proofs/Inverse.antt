@@ -43,7 +43,7 @@ nine P [] slice h = (λ e v k. absurd (not-nil (h .whole v k)), λ none. refl)
 nine P (u ∷ rest) slice h = (λ e. absurd (omega (arith, e)), λ none. absurd (none u (h .sound u (head refl))))
 
 module _ (q m : ℕ) (curve : IsCurve q) (order : m < q * q * q) where
-  encoded-word : (message word : List ℕ) → Accepted false (q * q) (size q m) message (q * q * q) (length word)
+  pub encoded-word : (message word : List ℕ) → Accepted false (q * q) (size q m) message (q * q * q) (length word)
       → encoded q m message word ≡ answered Done (wordOf q (columnsOf q) m message)
   unfolding encoded
   encoded-word message word h =
@@ -51,7 +51,7 @@ module _ (q m : ℕ) (curve : IsCurve q) (order : m < q * q * q) where
       (order-passed q m (sliceChecks false (q * q) (size q m) message (q * q * q) (length word) Done) curve order
       ∙ slices-accepted false (q * q) (size q m) message (q * q * q) (length word) Done h)
 
-  unencoded-read : (word slice : List ℕ) → Accepted false (q * q) (q * q * q) word (size q m) (length slice)
+  pub unencoded-read : (word slice : List ℕ) → Accepted false (q * q) (q * q * q) word (size q m) (length slice)
       → unencoded q m word slice ≡ readOver q (columnsOf q) m word slice
   unfolding unencoded
   unencoded-read word slice h =
@@ -59,7 +59,7 @@ module _ (q m : ℕ) (curve : IsCurve q) (order : m < q * q * q) where
       (order-passed q m (sliceChecks false (q * q) (q * q * q) word (size q m) (length slice) Done) curve order
       ∙ slices-accepted false (q * q) (q * q * q) word (size q m) (length slice) Done h)
 
-  message-accepted : (message word : List ℕ) → Vector (q * q) (size q m) message → length word ≡ q * q * q
+  pub message-accepted : (message word : List ℕ) → Vector (q * q) (size q m) message → length word ≡ q * q * q
       → Accepted false (q * q) (size q m) message (q * q * q) (length word)
   message-accepted message word h e =
       record { long = h .len; good = λ i l. good-symbol false (q * q) (getD message i 0) (h .small i (omega (arith, h .len))); fits = e }

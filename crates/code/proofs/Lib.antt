@@ -29,4 +29,3 @@ pub mod SymbolPowers
 pub mod WordGrids
 pub mod Inverse
 pub mod PaperValues
-pub mod WorkFronts

@@ -34,10 +34,10 @@ use Rattle.code.specs.Fitting.{agrees, fits, fitting}
 use Rattle.code.specs.Encoded.{encoded}
 use Rattle.code.specs.Unencoded.{unencodeChecks, theMessage, unencoded}
 use Rattle.code.specs.Recovered.{read, reading, answerOf, recoverChecks, recovered}
-use Rattle.code.specs.inner.Readable.{WordOver}
+use Rattle.code.specs.inner.Readable.{WordOver, gridValue, GridOf}
 use Rattle.code.proofs.FullColumns.{full-columns}
 use Rattle.code.proofs.Readings.{Fitting, fitting-list, none-listed}
-use Rattle.code.proofs.WordGrids.{gridValue, GridOf, only-within}
+use Rattle.code.proofs.WordGrids.{only-within}
 
 -- what the definitions give, and what the paper says
 pub record Row : Type 0 where

@@ -34,7 +34,7 @@ use Rattle.code.specs.Fitting.{fitting}
 use Rattle.code.specs.Answers.{answered}
 use Rattle.code.specs.Unencoded.{theMessage}
 use Rattle.code.specs.Recovered.{read, reading, answerOf}
-use Rattle.code.specs.inner.Readable.{WordOver, InterpolatedInY, readOver, gridAnswer}
+use Rattle.code.specs.inner.Readable.{WordOver, InterpolatedInY, gridValue, GridOf, readOver, gridAnswer}
 use Rattle.code.proofs.GridEntries.{length-scatter, length-gather, gather-scatter, gather-number}
 use Rattle.code.proofs.GridLaw.{two-stages}
 use Rattle.code.proofs.Order.{within-scatter, within-message}
@@ -43,15 +43,6 @@ use Rattle.code.proofs.Points.{nodup-ys}
 use Rattle.code.proofs.Stages.{columns-below, symbols-scatter, ys-below}
 use Rattle.code.proofs.Fitting.{Fits}
 use Rattle.code.proofs.Readings.{Fitting, fitting-list, none-listed}
-
--- the polynomial of a grid at the y number s of column t
-abbrev pub gridValue : ℕ → List ℕ → List ℕ → ℕ → ℕ → ℕ
-gridValue q columns grid t s = value (fieldOf q) q (at-column (fieldOf q) q columns grid t) (getD (ysOf q (getD columns t 0)) s 0)
-
-pub record GridOf (q : ℕ) (columns word grid : List ℕ) : Type 0 where
-  pub long : length grid ≡ q * length columns
-  pub symbols : Below (fieldOf q .size) grid
-  pub is : (t s : ℕ) → t < length columns → s < q → gridValue q columns grid t s ≡ getD word (q * t + s) 0
 
 -- the coefficients of a grid of symbols are symbols
 pub vector-gather : (q m b : ℕ) (grid : List ℕ) → Below b grid → Vector b (size q m) (gather q m grid)

@@ -110,8 +110,7 @@ fn bring_place(
     let mut row = [0u8; 64];
     write_equation(q, m, entries, x, y, s, &mut row);
     let k = entries.len();
-    let n = (k / 16 + 1) * 16;
-    system::bring_in(q, 64, n, k, work, &mut row)
+    system::bring_in(q, 64, k / 16 + 1, k, work, &mut row)
 }
 
 // Brings in what stands at place p: 255 brings nothing.
@@ -258,7 +257,7 @@ fn finish(
 }
 
 // What the symbols of a broken word say by their equations: no message, this one, or several.
-fn recover_by_equations(
+pub fn recover_by_equations(
     q: u8,
     columns: &[u8],
     m: usize,

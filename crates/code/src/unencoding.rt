@@ -1,13 +1,13 @@
 // Unencoding: a word to the message whose word it is.
 ghost use mathlib.Core.Path.{_≡_};
 ghost use Prim.Native.Nat.{ℕ, _*_, _≤_, _<_};
-ghost use lib.ListN.{length, getD};
+ghost use lib.ListN.{length, getD, take};
 ghost use Rattle.field.specs.Curve.{IsCurve};
 ghost use Rattle.field.proofs.Fields.{fieldOf};
 ghost use Rattle.poly.specs.inner.Interpolation.{VanishingTree};
 ghost use Rattle.code.specs.Terms.{size};
 ghost use Rattle.code.specs.Answers.{answered};
-ghost use Rattle.code.specs.inner.Readable.{WordOver, InterpolatedInY, Readable, readOver, gridAnswer};
+ghost use Rattle.code.specs.inner.Readable.{WordOver, InterpolatedInY, GridOf, Readable, readOver, gridAnswer};
 ghost use Rattle.code.specs.Unencoded.{unencoded};
 use crate::check;
 use crate::grid;
@@ -39,6 +39,17 @@ fn interpolate_in_y(q: u8, columns: &[u8], word: &[u8], work: &mut [u8])
     }
 }
 
+// Both stages: the grid of the word, in the front of work. The columns' vanishing polynomials are in the tree.
+pub fn interpolate(q: u8, columns: &[u8], tree: &[u8], word: &[u8], work: &mut [u8])
+    requires { ⌜ WordOver q (now columns) (now word) × (1 ≤ length (now columns)) × VanishingTree (fieldOf q) (now columns) (now tree) ⌝ }
+    requires { ⌜ (length (now work) ≡ 16 * length (now columns)) × ((i : ℕ) → getD (now work) i 0 ≡ 0) ⌝ }
+    ensures { λ _. ⌜ GridOf q (now (columns .entry)) (now (word .entry)) (take (length (now (word .entry))) (now (work .exit))) ⌝ }
+{
+    let width = q as usize;
+    interpolate_in_y(q, columns, word, work);
+    interpolation::interpolate(q, width, columns, tree, work);
+}
+
 // The message of a grid, if it has no coefficient of a weight above m.
 fn read_grid(q: u8, m: usize, grid: &[u8], message: &mut [u8]) -> Outcome
     requires { ⌜ IsCurve q × (m < length (now grid)) × (length (now grid) ≤ 64) × (length (now message) ≡ size q m) ⌝ }
@@ -51,7 +62,7 @@ fn read_grid(q: u8, m: usize, grid: &[u8], message: &mut [u8]) -> Outcome
     Outcome::NoMessage
 }
 
-// The message of a word over the columns, whose vanishing polynomials are in the tree.
+// The message of a word over the columns.
 pub fn read_word(
     q: u8,
     columns: &[u8],
@@ -64,11 +75,9 @@ pub fn read_word(
     ensures { λ r. ⌜ readOver q (now (columns .entry)) m (now (word .entry)) (now (message .entry)) ≡ answered r (now (message .exit)) ⌝ }
 {
     let mut work = [0u8; 256];
-    let width = q as usize;
     let n = word.len();
     let end = 16 * columns.len();
-    interpolate_in_y(q, columns, word, &mut work[..end]);
-    interpolation::interpolate(q, width, columns, tree, &mut work[..end]);
+    interpolate(q, columns, tree, word, &mut work[..end]);
     read_grid(q, m, &work[..n], message)
 }
 

@@ -12,7 +12,7 @@ use denote.Enum.Declared.{tagOf}
 use Rattle.field.specs.Outcomes.{number, second, Says, refuse}
 use Rattle.field.specs.declared.outcome.Outcome.{Outcome}
 use Rattle.field.specs.declared.outcome.Outcome.the-variants.{Done, BadCurve, BadOrder, BadLength, BadValue, BadRoom, BadPlace}
-use Rattle.field.specs.declared.outcome.Outcome.the-variants.{BadSymbol, NoMessage, Several, InverseOfZero}
+use Rattle.field.specs.declared.outcome.Outcome.the-variants.{BadSymbol, NoMessage, Several, NoneNear, NoRadius, InverseOfZero}
 use Rattle.field.proofs.outcome.Outcome.{the-type}
 
 -- a check that comes out Done did not apply
@@ -25,7 +25,8 @@ outcomeOf : ℕ → ℕ → Outcome
 outcomeOf n s =
     cond (eqb n 0) Done (cond (eqb n 1) BadCurve (cond (eqb n 2) BadOrder (cond (eqb n 3) BadLength (cond (eqb n 4) (BadValue s)
     (cond (eqb n 5) BadRoom (cond (eqb n 6) BadPlace (cond (eqb n 7) BadSymbol
-    (cond (eqb n 9) NoMessage (cond (eqb n 10) (Several s) InverseOfZero)))))))))
+    (cond (eqb n 9) NoMessage (cond (eqb n 10) (Several s)
+    (cond (eqb n 11) NoneNear (cond (eqb n 12) NoRadius InverseOfZero)))))))))))
 
 outcome-of : (o : Outcome) → outcomeOf (number o) (second o) ≡ o
 unfolding outcomeOf
@@ -39,14 +40,24 @@ outcome-of BadPlace = refl
 outcome-of BadSymbol = refl
 outcome-of NoMessage = refl
 outcome-of (Several n) = refl
+outcome-of NoneNear = refl
+outcome-of NoRadius = refl
 outcome-of InverseOfZero = refl
 
 pub says : (o p : Outcome) → Says o (number p) (second p) ↔ (o ≡ p)
 says o p = (λ h. sym (outcome-of o) ∙ rw (h .0, h .1) (outcome-of p), λ e. rw e (refl, refl))
 
+pub done-or-refused : (o : Outcome) → (o ≡ Done) ⊎ (eqb (number o) 0 ≡ false)
+unfolding outcomeOf
+done-or-refused o = go (eqb (number o) 0) refl
+  where
+    go : (b : Bool) → eqb (number o) 0 ≡ b → (o ≡ Done) ⊎ (eqb (number o) 0 ≡ false)
+    go true e = inl (sym (outcome-of o) ∙ rw e)
+    go false e = inr e
+
 -- the variants other than Done, by their tags: what the arm of the others is told
 abbrev pub refusals : List ℕ
-refusals = 1 ∷ 2 ∷ 3 ∷ 4 ∷ 5 ∷ 6 ∷ 7 ∷ 8 ∷ 9 ∷ 10 ∷ []
+refusals = 1 ∷ 2 ∷ 3 ∷ 4 ∷ 5 ∷ 6 ∷ 7 ∷ 8 ∷ 9 ∷ 10 ∷ 11 ∷ 12 ∷ []
 
 pub not-done : (o : Outcome) → OneOf refusals (tagOf the-type o) → eqb (number o) 0 ≡ false
 not-done Done k = absurd (miss refusals 0 tt k)
@@ -59,6 +70,8 @@ not-done BadPlace k = refl
 not-done BadSymbol k = refl
 not-done NoMessage k = refl
 not-done (Several n) k = refl
+not-done NoneNear k = refl
+not-done NoRadius k = refl
 not-done InverseOfZero k = refl
 
 -- ---- rows of checks: what follows a row that comes out Done is what the call answers; a refusal of the row is the call's

@@ -4,7 +4,7 @@ use mathlib.Core.Path.{_≡_}
 use Prim.Native.Nat.{ℕ, _+_, _*_}
 use Rattle.field.specs.declared.outcome.Outcome.{Outcome}
 use Rattle.field.specs.declared.outcome.Outcome.the-variants.{Done, BadCurve, BadOrder, BadLength, BadValue, BadRoom, BadPlace}
-use Rattle.field.specs.declared.outcome.Outcome.the-variants.{BadSymbol, NoMessage, Several, InverseOfZero}
+use Rattle.field.specs.declared.outcome.Outcome.the-variants.{BadSymbol, NoMessage, Several, NoneNear, NoRadius, InverseOfZero}
 
 -- the refusal number, and 0 for "a call that isn't refused"; "Refusal 8 no longer occurs" (T-01)
 abbrev pub number : Outcome → ℕ
@@ -18,6 +18,8 @@ number BadPlace = 6
 number BadSymbol = 7
 number NoMessage = 9
 number (Several r) = 10
+number NoneNear = 11
+number NoRadius = 12
 number InverseOfZero = 13
 
 -- "a second number, 0 unless stated"
@@ -32,6 +34,8 @@ second BadPlace = 0
 second BadSymbol = 0
 second NoMessage = 0
 second (Several r) = r
+second NoneNear = 0
+second NoRadius = 0
 second InverseOfZero = 0
 
 -- an answer with these two numbers

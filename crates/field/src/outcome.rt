@@ -17,6 +17,9 @@ pub enum Outcome {
     NoMessage,
     // the r of Q^r messages that fit
     Several(u8),
+    // request T-03: numbers 11, no codeword within the radius, and 12, no radius at this order
+    NoneNear,
+    NoRadius,
     // request T-06: number 13
     InverseOfZero,
 }
@@ -36,6 +39,8 @@ pub fn number(o: Outcome) -> u8
         Outcome::BadSymbol => 7,
         Outcome::NoMessage => 9,
         Outcome::Several(_) => 10,
+        Outcome::NoneNear => 11,
+        Outcome::NoRadius => 12,
         Outcome::InverseOfZero => 13,
     }
 }
@@ -55,6 +60,8 @@ pub fn second(o: Outcome) -> u8
         Outcome::BadSymbol => 0,
         Outcome::NoMessage => 0,
         Outcome::Several(r) => r,
+        Outcome::NoneNear => 0,
+        Outcome::NoRadius => 0,
         Outcome::InverseOfZero => 0,
     }
 }

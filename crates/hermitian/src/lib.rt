@@ -1,8 +1,9 @@
 // The library as C calls it: a slice is a pointer and a length, and both numbers of the outcome come in one.
-ghost use Rattle.hermitian.specs.Packed.{Packed};
+ghost use Rattle.hermitian.specs.Packed.{Packed, PackedMending};
 ghost use Rattle.code.specs.Encoded.{encoded};
 ghost use Rattle.code.specs.Recovered.{recovered};
 ghost use Rattle.code.specs.Unencoded.{unencoded};
+ghost use Rattle.mend.specs.Mended.{mended};
 use code::encoding;
 use code::recovery;
 use code::unencoding;
@@ -27,4 +28,21 @@ pub extern "C" fn hermitian_unencode(q: u8, m: u8, word: &[u8], message: &mut [u
     ensures { λ r. ⌜ Packed (unencoded q m (now (word .entry)) (now (message .entry))) r (now (message .exit)) ⌝ }
 {
     outcome::packed(unencoding::unencode(q, m, word, message))
+}
+
+#[no_mangle]
+pub extern "C" fn hermitian_mend(
+    q: u8,
+    m: u8,
+    word: &[u8],
+    message: &mut [u8],
+    codeword: &mut [u8],
+    marks: &mut [u8],
+) -> u32
+    ensures { λ r. ⌜ PackedMending (mended q m (now (word .entry)) (now (message .entry)) (now (codeword .entry)) (now (marks .entry))) r
+        (now (message .exit)) (now (codeword .exit)) (now (marks .exit)) ⌝ }
+{
+    let reply = mend::mend(q, m, word, message, codeword, marks);
+    let o = reply.outcome;
+    outcome::packed(o)
 }

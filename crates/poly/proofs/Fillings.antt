@@ -8,13 +8,14 @@ use native.Mathlib.Decide.{decLt}
 use native.Mathlib.Omega.{arith}
 use borrow.Rule.Slice.PartMut.{putMid}
 use lib.ListN.{length, getD, take, length-take, List·getD-eq-default}
-use lib.Seq.{getD-take}
-use Rattle.poly.specs.inner.Ranges.{Below, part, put}
+use lib.Seq.{ext-getD, getD-take}
+use Rattle.poly.specs.inner.Ranges.{Below, writes, part, put}
 use Rattle.poly.specs.inner.Rows.{stored}
 use Rattle.poly.specs.inner.Interpolation.{Padded, Placed, Written}
 use Rattle.poly.proofs.Entries.{zeros, getD-zeros}
 use Rattle.poly.proofs.Parts.{length-part, put-is, length-put, put-low, put-in, put-high}
 use Rattle.poly.proofs.Multiples.{length-stored, stored-in}
+use Rattle.poly.proofs.Writes.{length-writes, writes-in, writes-out}
 
 -- the blocks before at hold f, and the rest is as it was
 pub record Filled (o : ℕ) (f : ℕ → ℕ) (out₀ out : List ℕ) (at : ℕ) : Type 0 where
@@ -86,6 +87,17 @@ filled-written n f out₀ out at h l b t s k =
     let below : b < h .blocks = omega (arith, h .is-at) in
     let e : 0 + (16 * b + t) ≡ 16 * b + t = omega arith in
     ap (λ (x : ℕ). getD out x 0) (sym e) ∙ h .done (16 * b + t) (omega (arith, h .is-at, mul-suc 16 b, mul-le-mul-left 16 below))
+
+-- all of the blocks are written: the same as n stores one by one
+pub filled-writes : (n : ℕ) (f : ℕ → ℕ) (out₀ out : List ℕ) → n ≤ length out₀ → Filled 0 f out₀ out n → out ≡ writes out₀ n f
+filled-writes n f out₀ out fits h =
+    ext-getD 0 out (writes out₀ n f) (h .long ∙ sym (length-writes out₀ f n))
+    (λ e l. let z : 0 + e ≡ e = omega arith in
+    ap (λ (i : ℕ). getD out i 0) (sym z)
+    ∙ elim (decLt e n) [
+      | yes b ↦ h .done e b ∙ sym (writes-in out₀ f n e b fits)
+      | no b ↦ h .rest e (omega arith) ∙ ap (λ (i : ℕ). getD out₀ i 0) z ∙ sym (writes-out out₀ f n e (omega arith))
+    ])
 
 -- what is written is below n, and so was the rest
 pub filled-below : (n : ℕ) (f : ℕ → ℕ) (out₀ out : List ℕ) (at : ℕ) → Filled 0 f out₀ out at → Below n out₀ → ((e : ℕ) → f e < n) → Below n out

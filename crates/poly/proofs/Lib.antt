@@ -5,6 +5,7 @@ pub mod Messages
 pub mod Writes
 pub mod Parts
 pub mod Entries
+pub mod Fronts
 pub mod LaneLaws
 pub mod Filter
 pub mod Values
@@ -28,6 +29,7 @@ pub mod Reduction
 pub mod RowOperations
 pub mod Solutions
 pub mod Substitution
+pub mod FreeUnknowns
 pub mod Triangular
 pub mod WellFormed
 pub mod Products

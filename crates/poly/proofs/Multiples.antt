@@ -1,10 +1,11 @@
 -- What the leaves on rows leave: the length, and the number at each place.
 -- Assumes nothing.
-use mathlib.Core.Path.{_≡_, ap, _∙_}
+use mathlib.Core.Path.{_≡_, sym, ap, _∙_}
 use mathlib.Core.List.{List}
 use Prim.Native.Nat.{ℕ, _+_, _-_, _≤_, _<_}
 use native.Mathlib.Omega.{arith}
 use lib.ListN.{length, getD}
+use lib.Seq.{ext-getD}
 use Rattle.field.specs.Field.{Field}
 use Rattle.poly.specs.inner.Ranges.{Below, part, put}
 use Rattle.poly.specs.inner.Rows.{scaled, stored}
@@ -18,6 +19,12 @@ length-stored n src dst = length-writes dst _ n
 pub stored-in : (n : ℕ) (src dst : List ℕ) (j : ℕ) → j < n → n ≤ length dst → getD (stored n src dst) j 0 ≡ getD src j 0
 unfolding stored
 stored-in n src dst j h k = writes-in dst _ n j h k
+
+-- a whole list in the place of another
+pub stored-all : (n : ℕ) (src dst : List ℕ) → length src ≡ n → length dst ≡ n → stored n src dst ≡ src
+stored-all n src dst ls ld =
+    ext-getD 0 (stored n src dst) src (length-stored n src dst ∙ ld ∙ sym ls)
+    (λ j l. stored-in n src dst j (omega (arith, length-stored n src dst)) (omega arith))
 
 module _ (F : Field) (c n : ℕ) where
   pub length-scaled : (row : List ℕ) → length (scaled F c n row) ≡ length row

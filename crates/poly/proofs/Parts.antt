@@ -1,13 +1,13 @@
 -- Indices of a flat list of rows, lists of numbers below n, and a part of a list that is lent and comes back.
 -- Assumes nothing.
-use mathlib.Core.Path.{_≡_, ap, _∙_}
+use mathlib.Core.Path.{_≡_, sym, ap, _∙_}
 use mathlib.Core.List.{List, [], _∷_, _++_, List·Memᴰ as Mem}
 use Prim.Native.Nat.{ℕ, zero, suc, _+_, _-_, _*_, _≤_, _<_}
 use native.Mathlib.Nat.{suc-mul, mul-le-mul-right}
 use native.Mathlib.Decide.{decLt}
 use native.Mathlib.Omega.{arith}
 use lib.ListN.{length, getD, take, drop, length-take, length-drop, List·getD-eq-default, List·getD-append, length-append}
-use lib.Seq.{take-all, getD-take, getD-drop, length-take-le, getD-append-add}
+use lib.Seq.{ext-getD, take-all, getD-take, getD-drop, length-take-le, getD-append-add}
 use borrow.Rule.Slice.PartMut.{putMid, post-is}
 use Rattle.poly.specs.Lists.{below, without}
 use Rattle.poly.specs.inner.Ranges.{Below, part, put}
@@ -111,6 +111,20 @@ module _ (l : List ℕ) (a e : ℕ) (ys : List ℕ) (ae : a ≤ e) (el : e ≤ l
           let at-j : a + (j - a) ≡ j = omega arith in
           rw (← at-j, put-in (j - a) (omega arith)) (hy (j - a))
       go (no h) (no i) = rw (put-high j (omega arith)) (hl j)
+
+  -- the part itself, and a part before it
+  pub part-put : part (put l a e ys) a e ≡ ys
+  part-put =
+      let long : length (part (put l a e ys) a e) ≡ e - a = length-part (put l a e ys) a e ae (rw length-put el) in
+      ext-getD 0 (part (put l a e ys) a e) ys (long ∙ sym yl)
+      (λ j h. part-at (put l a e ys) a e j (omega arith) ∙ put-in j (omega arith))
+
+  pub part-before : (u v : ℕ) → u ≤ v → v ≤ a → part (put l a e ys) u v ≡ part l u v
+  part-before u v uv va =
+      let new : length (part (put l a e ys) u v) ≡ v - u = length-part (put l a e ys) u v uv (rw length-put (omega arith)) in
+      let old : length (part l u v) ≡ v - u = length-part l u v uv (omega arith) in
+      ext-getD 0 (part (put l a e ys) u v) (part l u v) (new ∙ sym old)
+      (λ j h. part-at (put l a e ys) u v j (omega arith) ∙ put-low (u + j) (omega arith) ∙ sym (part-at l u v j (omega arith)))
 
 -- of small numbers, as the borrow checker has it
 pub below-back : (n : ℕ) (l ys : List ℕ) (a e : ℕ) → a ≤ e → e ≤ length l → length ys ≡ e - a → Below n l → Below n ys

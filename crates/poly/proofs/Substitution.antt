@@ -1,4 +1,4 @@
--- The turns of `solve`: forward substitution writes what the rows give, and where every row is present that is the one solution.
+-- The turns of `solve`: forward substitution writes what the rows give, a solution, and where every row is present the only one.
 -- Assumes nothing.
 use mathlib.Core.Path.{_≡_, refl, sym, ap, _∙_}
 use mathlib.Core.List.{List}
@@ -13,7 +13,7 @@ use Rattle.field.specs.Plus.{plus}
 use Rattle.field.specs.Field.{Field}
 use Rattle.poly.specs.inner.Ranges.{part}
 use Rattle.poly.specs.inner.Linear.{entry, dot}
-use Rattle.poly.specs.inner.Systems.{System, flat, Satisfies, Full, WellFormed, Solves}
+use Rattle.poly.specs.inner.Systems.{System, flat, Full, WellFormed, Solution, Solves}
 use Rattle.poly.proofs.Parts.{part-at}
 use Rattle.poly.proofs.Linear.{dot-lt, dot-cong}
 use Rattle.poly.proofs.Triangular.{Follows, next, follows-none, follows-suc, follows-local, next-local, satisfies-follows}
@@ -71,12 +71,18 @@ module _ (F : Field) (stride k : ℕ) (work : List ℕ) (wf : WellFormed F strid
         symbol j (inl e) = rw (e, last) small
         symbol j (inr l) = rw (← early j l) (D .symbols j l)
 
-  pub solved : Full k S → (message₀ message : List ℕ) → Solving F k S message₀ message k → Solves F k S message
-  solved every message₀ message D =
-      let solution : Satisfies F k S (entry message) =
-      satisfies-follows F S k (triangular F stride k work wf) (entry message) (D .symbols) .1 (D .follows) in
+  pub solved : (message₀ message : List ℕ) → Solving F k S message₀ message k → Solution F k S message
+  solved message₀ message D =
       record {
         symbols = D .symbols;
-        solution = solution;
-        only = λ v small h. satisfies-unique F S k (triangular F stride k work wf) every v (entry message) small (D .symbols) h solution;
+        satisfies = satisfies-follows F S k (triangular F stride k work wf) (entry message) (D .symbols) .1 (D .follows);
+      }
+
+  -- where every row is present it is the only solution
+  pub solves-full : Full k S → (message : List ℕ) → Solution F k S message → Solves F k S message
+  solves-full every message h =
+      record {
+        symbols = h .symbols;
+        solution = h .satisfies;
+        only = λ v small s. satisfies-unique F S k (triangular F stride k work wf) every v (entry message) small (h .symbols) s (h .satisfies);
       }

@@ -1,8 +1,8 @@
--- The laws of the value of a polynomial: sums, multiples, more coefficients, a shift, the product by x - a, and Horner's rule.
+-- The laws of the value of a polynomial: sums, multiples, more coefficients, a shift, and such as go round, the product by x - a, and Horner's rule.
 -- Assumes nothing.
 use mathlib.Core.Path.{_≡_, refl, sym, ap, ap₂, _∙_}
 use Prim.Native.Nat.{ℕ, zero, suc, _+_, _-_, _*_, _≤_, _<_}
-use native.Mathlib.Nat.{mul-suc, mul-le-mul-left}
+use native.Mathlib.Nat.{add-comm, mul-suc, mul-le-mul-left}
 use native.Mathlib.Omega.{arith}
 use Rattle.field.specs.Plus.{plus}
 use Rattle.field.specs.Field.{Field}
@@ -111,6 +111,76 @@ module _ (F : Field) where
       ∙ ap₂ plus (ap (F .times x) (value-cong n (λ i. g (suc i)) (λ i. f (suc i)) x h)) e
       ∙ sym (plus-assoc (F .times x (value F n (λ i. f (suc i)) x)) (f 0) c)
       ∙ ap (λ (v : ℕ). plus v c) (sym (value-first n f x fl))
+
+  -- x times f, where x^N is c + x: each coefficient one further, and the last is added to that of x, and times c is that of x^0
+  pub value-trinomial : (N n : ℕ) (f g : ℕ → ℕ) (c x : ℕ) → N ≡ suc (suc n) → power F x N ≡ plus c x → f 0 < F .size → f (suc n) < F .size
+      → g 0 ≡ F .times c (f (suc n)) → g 1 ≡ plus (f 0) (f (suc n)) → ((i : ℕ) → i < n → g (suc (suc i)) ≡ f (suc i))
+      → value F N g x ≡ F .times x (value F N f x)
+  value-trinomial N n f g c x is-N cyclic first last g0 g1 more =
+      ap (λ (k : ℕ). value F k g x) is-N
+      ∙ value-first (suc n) g x (rw g0 (F .times-lt c (f (suc n))))
+      ∙ ap₂ plus (ap (F .times x) (value-constant n f (λ i. g (suc i)) (f (suc n)) x first last g1 more)) g0
+      ∙ ap (λ (v : ℕ). plus v (F .times c (f (suc n)))) (F .times-plus x (value F (suc n) f x) (f (suc n)))
+      ∙ plus-assoc (F .times x (value F (suc n) f x)) (F .times x (f (suc n))) (F .times c (f (suc n)))
+      ∙ ap (plus (F .times x (value F (suc n) f x))) (sym round)
+      ∙ sym (F .times-plus x (value F (suc n) f x) (F .times (f (suc n)) (power F x (suc n))))
+      ∙ ap (F .times x) (sym (value-suc (suc n) f x))
+      ∙ ap (λ (k : ℕ). F .times x (value F k f x)) (sym is-N)
+    where
+      round : F .times x (F .times (f (suc n)) (power F x (suc n))) ≡ plus (F .times x (f (suc n))) (F .times c (f (suc n)))
+      round =
+          times-left-comm F x (f (suc n)) (power F x (suc n))
+          ∙ ap (F .times (f (suc n))) (sym (power-suc F x (suc n)) ∙ ap (power F x) (sym is-N) ∙ cyclic)
+          ∙ F .times-plus (f (suc n)) c x
+          ∙ plus-comm (F .times (f (suc n)) c) (F .times (f (suc n)) x)
+          ∙ ap₂ plus (F .times-comm (f (suc n)) x) (F .times-comm (f (suc n)) c)
+
+  -- x^(a + 1) times f, where x^N is x: each coefficient a + 1 further, from the end on to that of x
+  pub value-rotated : (N a b : ℕ) (f g : ℕ → ℕ) (x : ℕ) → N ≡ suc a + suc b → power F x N ≡ x → f 0 < F .size → f (a + suc b) < F .size
+      → g 0 ≡ 0 → ((i : ℕ) → i < a → g (suc i) ≡ f (suc b + i)) → g (suc a + 0) ≡ plus (f 0) (f (suc b + a))
+      → ((i : ℕ) → i < b → g (suc a + suc i) ≡ f (suc i))
+      → value F N g x ≡ F .times (power F x (suc a)) (value F N f x)
+  value-rotated N a b f g x is-N cyclic first last g0 low meet high =
+      ap (λ (k : ℕ). value F k g x) is-N
+      ∙ value-add (suc a) (suc b) g x
+      ∙ ap₂ plus front back
+      ∙ plus-comm round (F .times up (plus start end))
+      ∙ ap (λ (v : ℕ). plus v round) (F .times-plus up start end)
+      ∙ plus-assoc (F .times up start) (F .times up end) round
+      ∙ ap (plus (F .times up start)) (plus-comm (F .times up end) round ∙ sym over)
+      ∙ sym (F .times-plus up start (F .times (power F x (suc b)) (value F (suc a) (λ i. f (suc b + i)) x)))
+      ∙ ap (F .times up) (sym (value-add (suc b) (suc a) f x))
+      ∙ ap (λ (k : ℕ). F .times up (value F k f x)) (add-comm (suc b) (suc a) ∙ sym is-N)
+    where
+      up : ℕ
+      up = power F x (suc a)
+
+      start : ℕ
+      start = value F (suc b) f x
+
+      end : ℕ
+      end = f (suc b + a)
+
+      round : ℕ
+      round = F .times x (value F a (λ i. f (suc b + i)) x)
+
+      front : value F (suc a) g x ≡ round
+      front =
+          value-first a g x (rw g0 (zero-lt F))
+          ∙ ap₂ plus (ap (F .times x) (value-cong a (λ i. g (suc i)) (λ i. f (suc b + i)) x low)) g0
+          ∙ plus-zero round
+
+      back : F .times up (value F (suc b) (λ i. g (suc a + i)) x) ≡ F .times up (plus start end)
+      back = ap (F .times up) (value-constant b f (λ i. g (suc a + i)) end x first (rw (add-comm (suc b) a) last) meet high)
+
+      over : F .times up (F .times (power F x (suc b)) (value F (suc a) (λ i. f (suc b + i)) x)) ≡ plus round (F .times up end)
+      over =
+          sym (F .times-assoc up (power F x (suc b)) (value F (suc a) (λ i. f (suc b + i)) x))
+          ∙ ap (λ (v : ℕ). F .times v (value F (suc a) (λ i. f (suc b + i)) x))
+          (sym (power-add F x (suc a) (suc b)) ∙ ap (power F x) (sym is-N) ∙ cyclic)
+          ∙ ap (F .times x) (value-suc a (λ i. f (suc b + i)) x)
+          ∙ F .times-plus x (value F a (λ i. f (suc b + i)) x) (F .times end (power F x a))
+          ∙ ap (plus round) (times-left-comm F x end (power F x a) ∙ ap (F .times end) (sym (power-suc F x a)) ∙ F .times-comm end up)
 
   -- f times (x - a)
   pub linear-shift : (a : ℕ) (f : ℕ → ℕ) (i : ℕ) → linear F a f i ≡ plus (F .times a (f i)) (shift f i)

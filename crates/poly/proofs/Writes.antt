@@ -1,6 +1,6 @@
 -- A loop that writes a range anew: the length, what stands where it wrote and where it did not, and what a turn does.
 -- Assumes nothing.
-use mathlib.Core.Path.{_≡_, refl, sym, ap, _∙_}
+use mathlib.Core.Path.{_≡_, refl, sym, ap, ap₂, _∙_}
 use mathlib.Core.List.{List, map}
 use mathlib.Core.Logic.{⊎-elim}
 use Prim.Native.Nat.{ℕ, zero, suc, _+_, _≤_, _<_}
@@ -54,6 +54,12 @@ module _ (l : List ℕ) (f : ℕ → ℕ) where
       go : Dec (j < n) → getD (writes l n f) j 0 < b
       go (yes i) = rw (writes-in n j i k) (g j i)
       go (no p) = rw (writes-out n j (omega arith)) (h j)
+
+-- the same numbers below n
+pub writes-cong : (l : List ℕ) (f g : ℕ → ℕ) (n : ℕ) → ((j : ℕ) → j < n → f j ≡ g j) → writes l n f ≡ writes l n g
+unfolding writes
+writes-cong l f g zero h = refl
+writes-cong l f g (suc n) h = ap₂ (λ (k : List ℕ) (v : ℕ). set k n v) (writes-cong l f g n (λ j b. h j (omega arith))) (h n (omega arith))
 
 -- each entry is given the value of f at it
 pub writes-map : (f : ℕ → ℕ) (l : List ℕ) → writes l (length l) (λ j. f (getD l j 0)) ≡ map f l

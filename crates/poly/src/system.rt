@@ -1,13 +1,15 @@
 // Linear systems that grow an equation at a time, in a flat slice: row p stands from p * stride on.
+ghost use mathlib.Core.Bool.{not};
 ghost use mathlib.Core.Path.{_≡_};
-ghost use Prim.Native.Nat.{ℕ, _+_, _≤_, _<_};
+ghost use Prim.Native.Nat.{ℕ, _+_, _*_, _≤_, _<_};
+ghost use lib.Dec.{T};
 ghost use lib.ListN.{length};
 ghost use Rattle.field.specs.Plus.{plus};
 ghost use Rattle.field.proofs.Fields.{fieldOf};
 ghost use Rattle.poly.specs.inner.Linear.{entry, dot};
 ghost use Rattle.poly.specs.inner.Rows.{divided, placed};
 use crate::rows;
-ghost use Rattle.poly.specs.inner.Systems.{flat, Full, WellFormed, Equation, Reduced, Brought, Solves};
+ghost use Rattle.poly.specs.inner.Systems.{flat, WellFormed, Equation, Reduced, Brought, Solution, FirstFree, Fixed, NonzeroSolved};
 
 // What bringing in an equation did: a row more; nothing, for it held already; nothing, for it never holds.
 pub enum Effect {
@@ -32,11 +34,10 @@ fn dot(q: u8, start: u8, n: usize, a: &[u8], b: &[u8]) -> u8
 }
 
 // Takes the rows of work that are present out of row. Answers 0 where no coefficient is left, and else one more than the
-// place of the last that is left, where work has no row. The first n elements of a row are added, k and more: the loop is
-// fastest where n is a multiple of 16.
-fn reduce(q: u8, stride: usize, n: usize, k: usize, work: &[u8], row: &mut [u8]) -> usize
+// place of the last that is left, where work has no row. The first 16 times blocks elements of a row are added, k and more.
+fn reduce(q: u8, stride: usize, blocks: usize, k: usize, work: &[u8], row: &mut [u8]) -> usize
     requires { ⌜ WellFormed (fieldOf q) stride k (now work) × Equation (fieldOf q) k (now row) ⌝ }
-    requires { ⌜ (k < n) × (n ≤ stride) × (n ≤ length (now row)) ⌝ }
+    requires { ⌜ (k < 16 * blocks) × (16 * blocks ≤ stride) × (16 * blocks ≤ length (now row)) ⌝ }
     ensures { λ r. ⌜ Reduced (fieldOf q) k (flat stride k (now (work .entry))) (now (row .entry)) (now (row .exit)) r ⌝ }
 {
     let mut p = k;
@@ -49,7 +50,7 @@ fn reduce(q: u8, stride: usize, n: usize, k: usize, work: &[u8], row: &mut [u8])
                 return p;
             }
             let end = base + stride;
-            rows::add_scaled(q, c, n, &work[base..end], row);
+            rows::add_scaled(q, c, blocks, &work[base..end], row);
         }
         p = i;
     }
@@ -70,14 +71,21 @@ fn place(q: u8, stride: usize, k: usize, i: usize, work: &mut [u8], row: &mut [u
     rows::copy(n, row, &mut work[base..end]);
 }
 
-// Brings one more equation into the system. Row is used up. The first n elements of a row are in use, k and more.
-pub fn bring_in(q: u8, stride: usize, n: usize, k: usize, work: &mut [u8], row: &mut [u8]) -> Effect
+// Brings one more equation into the system. Row is used up. The first 16 times blocks elements of a row are in use, k and more.
+pub fn bring_in(
+    q: u8,
+    stride: usize,
+    blocks: usize,
+    k: usize,
+    work: &mut [u8],
+    row: &mut [u8],
+) -> Effect
     requires { ⌜ WellFormed (fieldOf q) stride k (now work) × Equation (fieldOf q) k (now row) ⌝ }
-    requires { ⌜ (k < n) × (n ≤ stride) × (n ≤ length (now row)) ⌝ }
+    requires { ⌜ (k < 16 * blocks) × (16 * blocks ≤ stride) × (16 * blocks ≤ length (now row)) ⌝ }
     ensures { λ r. ⌜ WellFormed (fieldOf q) stride k (now (work .exit)) ⌝ }
     ensures { λ r. ⌜ Brought (fieldOf q) stride k (now (work .entry)) (entry (now (row .entry))) (now (work .exit)) r ⌝ }
 {
-    let p = reduce(q, stride, n, k, work, row);
+    let p = reduce(q, stride, blocks, k, work, row);
     if p == 0 {
         if row[k] == 0 {
             return Effect::Redundant;
@@ -88,11 +96,10 @@ pub fn bring_in(q: u8, stride: usize, n: usize, k: usize, work: &mut [u8], row: 
     Effect::Pivot
 }
 
-// Forward substitution, where all k rows are present: the first k elements of message become the solution.
+// Forward substitution: the first k elements of message become a solution, where all k rows are present the only one.
 pub fn solve(q: u8, stride: usize, k: usize, work: &[u8], message: &mut [u8])
     requires { ⌜ WellFormed (fieldOf q) stride k (now work) × (k ≤ length (now message)) ⌝ }
-    requires { ⌜ Full k (flat stride k (now work)) ⌝ }
-    ensures { λ _. ⌜ Solves (fieldOf q) k (flat stride k (now (work .entry))) (now (message .exit)) ⌝ }
+    ensures { λ _. ⌜ Solution (fieldOf q) k (flat stride k (now (work .entry))) (now (message .exit)) ⌝ }
 {
     let mut p = 0;
     while p < k {
@@ -102,4 +109,55 @@ pub fn solve(q: u8, stride: usize, k: usize, work: &[u8], message: &mut [u8])
         message[p] = dot(q, start, p, &work[base..end], message);
         p += 1;
     }
+}
+
+// The first unknown that has no row, and k where all have one.
+fn free_unknown(stride: usize, k: usize, work: &[u8]) -> usize
+    requires { ⌜ (k < stride) × (length (now work) ≡ stride * stride) ⌝ }
+    ensures { λ r. ⌜ FirstFree k (flat stride k (now (work .entry))) r ⌝ }
+{
+    let mut p = 0;
+    while p < k {
+        if work[p * stride + p] != 1 {
+            return p;
+        }
+        p += 1;
+    }
+    p
+}
+
+// Brings in the equation that unknown p, which has no row, is 1.
+fn fix(q: u8, stride: usize, blocks: usize, k: usize, p: usize, work: &mut [u8])
+    requires { ⌜ WellFormed (fieldOf q) stride k (now work) × (p < k) × T (not (flat stride k (now work) .present p)) ⌝ }
+    requires { ⌜ (k < 16 * blocks) × (16 * blocks ≤ stride) × (16 * blocks ≤ 64) ⌝ }
+    ensures { λ _. ⌜ WellFormed (fieldOf q) stride k (now (work .exit)) ⌝ }
+    ensures { λ _. ⌜ Fixed (fieldOf q) k (flat stride k (now (work .entry))) p (flat stride k (now (work .exit))) ⌝ }
+{
+    let mut row = [0u8; 64];
+    row[p] = 1;
+    row[k] = 1;
+    bring_in(q, stride, blocks, k, work, &mut row);
+}
+
+// A solution other than 0 of a system whose right-hand sides are 0, if there is one: where some unknown has no row, the first
+// such is 1.
+pub fn solve_nonzero(
+    q: u8,
+    stride: usize,
+    blocks: usize,
+    k: usize,
+    work: &mut [u8],
+    message: &mut [u8],
+) -> bool
+    requires { ⌜ WellFormed (fieldOf q) stride k (now work) × (k ≤ length (now message)) ⌝ }
+    requires { ⌜ (k < 16 * blocks) × (16 * blocks ≤ stride) × (16 * blocks ≤ 64) ⌝ }
+    ensures { λ r. ⌜ NonzeroSolved (fieldOf q) k (flat stride k (now (work .entry))) (now (message .exit)) r ⌝ }
+{
+    let p = free_unknown(stride, k, work);
+    if p == k {
+        return false;
+    }
+    fix(q, stride, blocks, k, p, work);
+    solve(q, stride, k, work, message);
+    true
 }

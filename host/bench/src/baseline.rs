@@ -3,6 +3,7 @@
 
 use reference::code;
 use reference::curve::Curve;
+use reference::outcome::Outcome;
 
 use crate::{K, M, MISSING, N, Q};
 
@@ -13,9 +14,21 @@ pub const DONE: u32 = 0;
 const NOT_A_SYMBOL: u32 = 4 << 16;
 const NO_MESSAGE_FITS: u32 = 9 << 16;
 const SEVERAL_MESSAGES_FIT: u32 = 10 << 16;
+pub const NO_CODEWORD_NEAR: u32 = 11 << 16;
 
-/// An equation: a place's coefficients, then the symbol there.
+/// The most wrong symbols that are mended, t.
+pub const RADIUS: usize = 10;
+/// Mending looks for f and h with f times the word = h at every place: f has the
+/// terms of order t + 6, h those of order t + 6 + m.
+const F_TERMS: usize = 11;
+const H_TERMS: usize = 48;
+const H_ORDER: u8 = RADIUS as u8 + 6 + M;
+
+/// An equation of recovery: a place's coefficients, then the symbol there.
 type Row = [u8; K + 1];
+
+/// An equation of mending: the coefficients of h at a place, then those of f.
+type PairRow = [u8; H_TERMS + F_TERMS];
 
 pub struct Baseline {
     products: [[u8; SIZE]; SIZE],
@@ -29,13 +42,18 @@ pub struct Baseline {
     /// Takes the symbols at the chosen places to the message: row i belongs
     /// to the symbol at chosen place i.
     chosen_inverse: [[u8; K]; K],
+    /// The equations of mending for a word that is 1 at every place.
+    pair_equations: [PairRow; N],
 }
 
 impl Baseline {
     pub fn new() -> Baseline {
         let field = Curve::Q_IS_4.field();
         let symbol = |index: usize| index as u8;
-        let generator: [[u8; N]; K] = std::array::from_fn(unit_word);
+        // Terms come by ascending weight, so those of a lower order come first.
+        let terms: [[u8; N]; H_TERMS] = std::array::from_fn(term_word);
+        let generator: [[u8; N]; K] = std::array::from_fn(|i| terms[i]);
+        let pair_term = |i| if i < H_TERMS { i } else { i - H_TERMS };
         let mut baseline = Baseline {
             products: std::array::from_fn(|a| {
                 std::array::from_fn(|b| field.product(symbol(a), symbol(b)))
@@ -45,6 +63,9 @@ impl Baseline {
             generator,
             chosen_places: [0; K],
             chosen_inverse: [[0; K]; K],
+            pair_equations: std::array::from_fn(|p| {
+                std::array::from_fn(|i| terms[pair_term(i)][p])
+            }),
         };
         baseline.choose_places();
         baseline.invert_chosen();
@@ -85,7 +106,7 @@ impl Baseline {
         let mut rows = [[0; K + 1]; N];
         let count = self.write_equations(word, &mut rows);
         let rows = &mut rows[..count];
-        let rank = self.reduce(rows);
+        let rank = self.reduce(rows, K);
         // From the rank on every coefficient is 0, so the symbol must be too.
         if rows[rank..].iter().any(|row| row[K] != 0) {
             return NO_MESSAGE_FITS;
@@ -95,6 +116,65 @@ impl Baseline {
         }
         self.substitute_back(rows, message);
         DONE
+    }
+
+    /// Takes the places where f is 0 as missing, recovers, encodes again and
+    /// counts the differences.
+    pub fn mend(
+        &self,
+        word: &[u8; N],
+        message: &mut [u8; K],
+        mended: &mut [u8; N],
+        marks: &mut [u8; N],
+    ) -> u32 {
+        if let Some(index) = word.iter().position(|&s| usize::from(s) >= SIZE) {
+            return NOT_A_SYMBOL + index as u32;
+        }
+        let Some(f) = self.find_f(word) else {
+            return NO_CODEWORD_NEAR;
+        };
+        let mut candidate = [0; K];
+        if self.recover(&self.without_zeros(word, &f), &mut candidate) != DONE {
+            return NO_CODEWORD_NEAR;
+        }
+        let codeword = self.word_of(&candidate);
+        let changes: [u8; N] = std::array::from_fn(|p| u8::from(word[p] != codeword[p]));
+        if changes.iter().filter(|&&change| change != 0).count() > RADIUS {
+            return NO_CODEWORD_NEAR;
+        }
+        *message = candidate;
+        *mended = codeword;
+        *marks = changes;
+        DONE
+    }
+
+    /// Gauss elimination on the equations of all places. The words of h's terms
+    /// are independent, so each of the first H_TERMS rows leads with one of them,
+    /// and h needn't be worked out.
+    fn find_f(&self, word: &[u8; N]) -> Option<[u8; F_TERMS]> {
+        let mut rows = self.pair_equations;
+        for (row, &symbol) in rows.iter_mut().zip(word) {
+            let products = &self.products[usize::from(symbol) % SIZE];
+            for entry in &mut row[H_TERMS..] {
+                *entry = products[usize::from(*entry) % SIZE];
+            }
+        }
+        self.reduce(&mut rows, H_TERMS + F_TERMS);
+        let free = (0..F_TERMS).find(|&i| rows[H_TERMS + i][H_TERMS + i] == 0)?;
+        let mut f = [0; F_TERMS];
+        f[free] = 1;
+        for i in (0..free).rev() {
+            f[i] = self.product_sum(&rows[H_TERMS + i][H_TERMS + i + 1..], &f[i + 1..]);
+        }
+        Some(f)
+    }
+
+    fn without_zeros(&self, word: &[u8; N], f: &[u8; F_TERMS]) -> [u8; N] {
+        let mut values = [0; N];
+        for (&coefficient, row) in f.iter().zip(&self.generator) {
+            self.add_scaled(coefficient, row, &mut values);
+        }
+        std::array::from_fn(|p| if values[p] == 0 { MISSING } else { word[p] })
     }
 
     fn word_of(&self, message: &[u8; K]) -> [u8; N] {
@@ -126,10 +206,11 @@ impl Baseline {
         count
     }
 
-    /// Brings the rows to echelon form with leading ones; gives the rank.
-    fn reduce(&self, rows: &mut [Row]) -> usize {
+    /// Brings the rows to echelon form with leading ones, as far as the first
+    /// `columns` go; gives the rank of these.
+    fn reduce<const WIDTH: usize>(&self, rows: &mut [[u8; WIDTH]], columns: usize) -> usize {
         let mut rank = 0;
-        for column in 0..K {
+        for column in 0..columns {
             let pivot = (rank..rows.len()).find(|&row| rows[row][column] != 0);
             if let Some(pivot) = pivot {
                 rows.swap(rank, pivot);
@@ -140,7 +221,12 @@ impl Baseline {
         rank
     }
 
-    fn clear_below(&self, rows: &mut [Row], rank: usize, column: usize) {
+    fn clear_below<const WIDTH: usize>(
+        &self,
+        rows: &mut [[u8; WIDTH]],
+        rank: usize,
+        column: usize,
+    ) {
         let (above, below) = rows.split_at_mut(rank + 1);
         let pivot = &mut above[rank];
         let lead_inverse = self.inverses[usize::from(pivot[column]) % SIZE];
@@ -159,13 +245,15 @@ impl Baseline {
     /// At full rank row i has its leading one at i.
     fn substitute_back(&self, rows: &[Row], message: &mut [u8; K]) {
         for i in (0..K).rev() {
-            let mut value = rows[i][K];
-            for j in i + 1..K {
-                let products = &self.products[usize::from(rows[i][j]) % SIZE];
-                value ^= products[usize::from(message[j]) % SIZE];
-            }
-            message[i] = value;
+            message[i] = rows[i][K] ^ self.product_sum(&rows[i][i + 1..K], &message[i + 1..]);
         }
+    }
+
+    fn product_sum(&self, left: &[u8], right: &[u8]) -> u8 {
+        let pairs = left.iter().zip(right);
+        pairs.fold(0, |sum, (&a, &b)| {
+            sum ^ self.products[usize::from(a) % SIZE][usize::from(b) % SIZE]
+        })
     }
 
     /// Takes each place whose equation is independent of those before.
@@ -177,7 +265,7 @@ impl Baseline {
             row[..K].copy_from_slice(&self.equations[place]);
             let mut tried = rows.clone();
             tried.push(row);
-            if self.reduce(&mut tried) == tried.len() {
+            if self.reduce(&mut tried, K) == tried.len() {
                 rows.push(row);
                 chosen.push(place);
             }
@@ -201,10 +289,12 @@ impl Baseline {
     }
 }
 
-fn unit_word(index: usize) -> [u8; N] {
-    let mut message = [0; K];
-    message[index] = 1;
+/// The values of one term of h at every place.
+fn term_word(index: usize) -> [u8; N] {
+    let mut coefficients = [0; H_TERMS];
+    coefficients[index] = 1;
     let mut word = [0; N];
-    code::encode(Q, M, &message, &mut word);
+    let outcome = code::encode(Q, H_ORDER, &coefficients, &mut word);
+    assert_eq!(outcome, Outcome::ACCEPTED);
     word
 }

@@ -30,6 +30,7 @@ const MISSING: u8 = 255;
 
 const INPUTS: usize = 64;
 const MISSING_COUNTS: [usize; 6] = [0, 4, 10, 20, 26, 32];
+const WRONG_COUNTS: [usize; 5] = [0, 1, 5, 10, 14];
 const SEED: u64 = 37;
 
 type Message = [u8; K];
@@ -42,7 +43,8 @@ const USAGE: &str = "arguments, one of these:
   blocks [PROGRAM]    speed of the program `blocks` and of the baseline's
   blocks-baseline     the baseline's `blocks`, from standard input to standard output
   OPERATION CALLS     the library alone, for a profiler;
-                      the operation is encode, unencode or recover-COUNT, where COUNT symbols are missing";
+                      the operation is encode, unencode, recover-COUNT, where COUNT symbols are missing,
+                      or mend-COUNT, where COUNT symbols are wrong";
 
 fn main() -> ExitCode {
     let arguments: Vec<String> = std::env::args().skip(1).collect();
@@ -83,6 +85,10 @@ fn print_table() {
         let broken = broken_words(&words, missing);
         let name = format!("recover, {missing} missing");
         print_row(&name, &recovery_times(&baseline, &broken));
+    }
+    for wrong in WRONG_COUNTS {
+        let name = format!("mend, {wrong} wrong");
+        print_row(&name, &mending_times(&baseline, &words, wrong));
     }
 }
 
@@ -162,8 +168,54 @@ fn decoding_times(
     )
 }
 
-fn packed(result: Result<(), Refusal>) -> u32 {
-    result.map_or_else(Refusal::answer, |()| 0)
+/// What mending writes: message, codeword and marks.
+type MendOutput = (Message, Word, Word);
+
+fn mending_times(baseline: &Baseline, words: &[Word], wrong: usize) -> Times {
+    let words = &wrong_words(words, wrong);
+    let library = |word: &Word, (message, mended, marks): &mut MendOutput| {
+        packed(hermitian::mend_into(Q, M, word, message, mended, marks))
+    };
+    let baseline = |word: &Word, (message, mended, marks): &mut MendOutput| {
+        baseline.mend(word, message, mended, marks)
+    };
+    let expected = if wrong <= baseline::RADIUS {
+        baseline::DONE
+    } else {
+        baseline::NO_CODEWORD_NEAR
+    };
+    for word in words {
+        assert_eq!(library(word, &mut empty_output()), expected);
+    }
+    for word in words.iter().chain(&damaged(words)) {
+        let (mut ours, mut theirs) = (empty_output(), empty_output());
+        assert_eq!(library(word, &mut ours), baseline(word, &mut theirs));
+        assert_eq!(ours, theirs);
+    }
+    let (mut ours, mut theirs) = (empty_output(), empty_output());
+    timing::compare(
+        words.len(),
+        || {
+            for word in words {
+                black_box(library(black_box(word), &mut ours));
+                black_box(&ours);
+            }
+        },
+        || {
+            for word in words {
+                black_box(baseline(black_box(word), &mut theirs));
+                black_box(&theirs);
+            }
+        },
+    )
+}
+
+fn empty_output() -> MendOutput {
+    ([99; K], [99; N], [99; N])
+}
+
+fn packed<T>(result: Result<T, Refusal>) -> u32 {
+    result.map_or_else(Refusal::answer, |_| 0)
 }
 
 fn shape() -> Shape {
@@ -184,6 +236,12 @@ fn broken_words(words: &[Word], missing: usize) -> Vec<Word> {
     let mut generator = Generator::with_seed(SEED + missing as u64);
     let broken = |word: &Word| fixed(sample::with_known(&mut generator, word, N - missing));
     words.iter().map(broken).collect()
+}
+
+fn wrong_words(words: &[Word], wrong: usize) -> Vec<Word> {
+    let mut generator = Generator::with_seed(SEED + wrong as u64);
+    let wrong = |word: &Word| fixed(sample::with_wrong(&mut generator, shape(), word, wrong));
+    words.iter().map(wrong).collect()
 }
 
 fn damaged(words: &[Word]) -> Vec<Word> {

@@ -2,35 +2,49 @@
 
 use std::hint::black_box;
 
-use hermitian::Refusal;
-
-use crate::{broken_words, messages, word_of, Word, K, M, N, Q, USAGE};
+use crate::{broken_words, messages, word_of, wrong_words, Word, K, M, N, Q, USAGE};
 
 pub fn run(operation: &str, calls: &str) -> Result<(), String> {
     let Ok(calls) = calls.parse::<usize>() else {
         return Err(USAGE.to_string());
     };
     let words: Vec<Word> = messages().iter().map(word_of).collect();
-    let missing = operation.strip_prefix("recover-").map(str::parse);
-    match (operation, missing) {
-        ("encode", _) => repeat(calls, hermitian::encode, &messages(), &mut [0; N]),
-        ("unencode", _) => repeat(calls, hermitian::unencode, &words, &mut [0; K]),
-        (_, Some(Ok(missing))) if missing <= N => {
-            let broken = broken_words(&words, missing);
-            repeat(calls, hermitian::recover, &broken, &mut [0; K]);
+    let (mut message, mut word, mut marks) = ([0; K], [0; N], [0; N]);
+    match named(operation) {
+        Some(("encode", None)) => repeat(calls, &messages(), |input| {
+            hermitian::encode(Q, M, input, &mut word)
+        }),
+        Some(("unencode", None)) => repeat(calls, &words, |input| {
+            hermitian::unencode(Q, M, input, &mut message)
+        }),
+        Some(("recover", Some(missing))) => {
+            repeat(calls, &broken_words(&words, missing), |input| {
+                hermitian::recover(Q, M, input, &mut message)
+            })
         }
+        Some(("mend", Some(wrong))) => repeat(calls, &wrong_words(&words, wrong), |input| {
+            hermitian::mend_into(Q, M, input, &mut message, &mut word, &mut marks)
+        }),
         _ => return Err(USAGE.to_string()),
     }
     Ok(())
 }
 
-fn repeat<const LENGTH: usize>(
+/// The name before the hyphen and the number after it, at most n.
+fn named(operation: &str) -> Option<(&str, Option<usize>)> {
+    let Some((name, count)) = operation.split_once('-') else {
+        return Some((operation, None));
+    };
+    let count = count.parse().ok().filter(|&count| count <= N)?;
+    Some((name, Some(count)))
+}
+
+fn repeat<Input, Answer>(
     calls: usize,
-    operation: impl Fn(u8, u8, &[u8], &mut [u8]) -> Result<(), Refusal>,
-    inputs: &[[u8; LENGTH]],
-    output: &mut [u8],
+    inputs: &[Input],
+    mut operation: impl FnMut(&Input) -> Answer,
 ) {
     for input in inputs.iter().cycle().take(calls) {
-        let _ = black_box(operation(Q, M, input, output));
+        black_box(operation(input));
     }
 }

@@ -1,14 +1,15 @@
 //! The C entries as `include/hermitian.h` declares them.
 
-/// The shape of all three: q, m, the input and its length, the output and its
-/// length. The answer is the refusal number times 65536 plus the second number.
+/// The shape of all but [`hermitian_mend`]: q, m, the input and its length, the
+/// output and its length. The answer is the refusal number times 65536 plus the
+/// second number.
 pub type Entry = unsafe extern "C" fn(u8, u8, *const u8, usize, *mut u8, usize) -> u32;
 
 extern "C" {
     /// # Safety
     ///
     /// Each pointer is good for the length after it and isn't null, not even
-    /// beside the length 0; the two buffers don't overlap.
+    /// beside the length 0; no two of the buffers overlap.
     pub fn hermitian_encode(
         q: u8,
         m: u8,
@@ -40,5 +41,21 @@ extern "C" {
         word_length: usize,
         message: *mut u8,
         message_length: usize,
+    ) -> u32;
+
+    /// # Safety
+    ///
+    /// As for [`hermitian_encode`].
+    pub fn hermitian_mend(
+        q: u8,
+        m: u8,
+        word: *const u8,
+        word_length: usize,
+        message: *mut u8,
+        message_length: usize,
+        mended: *mut u8,
+        mended_length: usize,
+        marks: *mut u8,
+        marks_length: usize,
     ) -> u32;
 }

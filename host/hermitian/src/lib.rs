@@ -1,8 +1,8 @@
 //! The proved Hermitian block code, safe to call from Rust.
 //!
-//! A message of k symbols becomes a word of n symbols; the word gives the
-//! message back, whole or with symbols missing. Wrong symbols aren't
-//! corrected: the library says when no message fits.
+//! A message of k symbols becomes a word of n symbols, a codeword; the word
+//! gives the message back, whole or with symbols missing. Wrong symbols are
+//! corrected by [`mend`] alone: elsewhere the library says when no message fits.
 //!
 //! | q | n, length of a word | symbols | order m |
 //! |---|---|---|---|
@@ -10,7 +10,8 @@
 //! | 4 | 64 | 0 to 15 | 0 to 63 |
 //!
 //! [`message_length`] gives k. The strap uses q = 4, m = 37, k = 32. Any m + 1
-//! symbols of a word are enough to recover its message; fewer may be.
+//! symbols of a word are enough to recover its message; fewer may be. Up to t
+//! wrong symbols of a whole word are mended, 10 for the strap.
 //!
 //! ```
 //! use hermitian::{encode, recover, unencode, Refusal, MISSING};
@@ -43,8 +44,10 @@
 //! differential tests hold them together.
 
 pub mod entries;
+mod mend;
 mod refusal;
 
+pub use mend::{mend, mend_into, Mended};
 pub use refusal::Refusal;
 
 /// Stands for a missing symbol in the word given to [`recover`].

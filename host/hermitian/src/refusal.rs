@@ -3,9 +3,10 @@
 use std::error::Error;
 use std::fmt;
 
-/// The refusals that the three entries can give. The library checks in the
-/// order of the numbers, and the first that applies decides. Numbers 6 and 7
-/// belong to receiving sessions, which have no C entry; 8 no longer occurs.
+/// The refusals that the four entries can give. The library checks in the
+/// order of the numbers, only 12 comes right after 2, and the first that applies
+/// decides. Numbers 6 and 7 belong to receiving sessions, which have no C entry;
+/// 8 no longer occurs.
 #[derive(Clone, Copy, Debug, PartialEq, Eq, Hash)]
 pub enum Refusal {
     /// 1: q is neither 2 nor 4.
@@ -16,12 +17,16 @@ pub enum Refusal {
     WrongInputLength,
     /// 4: an input byte is no symbol; `index` is the lowest such index.
     NotASymbol { index: u8 },
-    /// 5: the slice to be written hasn't exactly the length of the result.
+    /// 5: a slice to be written hasn't exactly the length of the result.
     WrongOutputLength,
     /// 9: no message has these symbols in its word.
     NoMessageFits,
     /// 10: exactly Q to the power `power` messages fit, where Q = q·q.
     SeveralMessagesFit { power: u8 },
+    /// 11: no codeword differs from the word in at most t places.
+    NoCodewordNear,
+    /// 12: nothing is mended at this order, since n - m - 1 is less than g.
+    OrderTooHighToMend,
     /// No answer of the rules: what is linked isn't the library that this
     /// wrapper was written for.
     NotInTheRules { answer: u32 },
@@ -51,6 +56,13 @@ impl fmt::Display for Refusal {
                 f,
                 "too many symbols are missing: (q * q)^{power} messages fit"
             ),
+            Refusal::NoCodewordNear => {
+                write!(f, "no codeword is near: too many symbols are wrong")
+            }
+            Refusal::OrderTooHighToMend => write!(
+                f,
+                "the order m is too high to mend: at most 6 for q = 2, at most 57 for q = 4"
+            ),
             Refusal::NotInTheRules { answer } => write!(
                 f,
                 "the linked library gave an answer outside the rules: {answer}"
@@ -73,6 +85,8 @@ pub(crate) fn of_answer(answer: u32) -> Result<(), Refusal> {
         5 => Refusal::WrongOutputLength,
         9 => Refusal::NoMessageFits,
         10 => Refusal::SeveralMessagesFit { power: second },
+        11 => Refusal::NoCodewordNear,
+        12 => Refusal::OrderTooHighToMend,
         _ => Refusal::NotInTheRules { answer },
     };
     if refusal.answer() == answer {
@@ -93,6 +107,8 @@ impl Refusal {
             Refusal::WrongOutputLength => (5, 0),
             Refusal::NoMessageFits => (9, 0),
             Refusal::SeveralMessagesFit { power } => (10, power),
+            Refusal::NoCodewordNear => (11, 0),
+            Refusal::OrderTooHighToMend => (12, 0),
             Refusal::NotInTheRules { answer } => return answer,
         };
         number * 65536 + u32::from(second)
@@ -114,6 +130,8 @@ mod tests {
             (327_680, Refusal::WrongOutputLength),
             (589_824, Refusal::NoMessageFits),
             (655_392, Refusal::SeveralMessagesFit { power: 32 }),
+            (720_896, Refusal::NoCodewordNear),
+            (786_432, Refusal::OrderTooHighToMend),
         ];
         for (answer, refusal) in rows {
             assert_eq!(of_answer(answer), Err(refusal));
@@ -123,7 +141,9 @@ mod tests {
 
     #[test]
     fn answers_outside_the_rules_are_not_taken_for_others() {
-        for answer in [1, 65_537, 6 << 16, 11 << 16, (4 << 16) + 256, u32::MAX] {
+        let too_large_second = [65_537, (4 << 16) + 256, (11 << 16) + 1];
+        let no_refusal = [1, 6 << 16, 13 << 16, u32::MAX];
+        for answer in [too_large_second.as_slice(), &no_refusal].concat() {
             let refusal = Refusal::NotInTheRules { answer };
             assert_eq!(of_answer(answer), Err(refusal));
         }

@@ -21,6 +21,11 @@ pub fn curve_and_order(q: u8, m: u8) -> Result<Curve, Outcome> {
     Ok(curve)
 }
 
+/// Refusal 12, or else t.
+pub fn radius(curve: Curve, m: u8) -> Result<usize, Outcome> {
+    curve.radius(m).ok_or(Outcome::ORDER_TOO_HIGH_TO_MEND)
+}
+
 /// Refusal 3.
 pub fn input_length(input: &[u8], expected: usize) -> Result<(), Outcome> {
     if input.len() != expected {

@@ -50,14 +50,14 @@ fn try_decode(
 }
 
 /// The code of one order: its terms are what messages have coefficients for.
-struct Code {
+pub(crate) struct Code {
     field: Field,
-    points: Vec<Point>,
-    terms: Vec<Term>,
+    pub(crate) points: Vec<Point>,
+    pub(crate) terms: Vec<Term>,
 }
 
 impl Code {
-    fn of_order(curve: Curve, m: u8) -> Code {
+    pub(crate) fn of_order(curve: Curve, m: u8) -> Code {
         Code {
             field: curve.field(),
             points: curve.points(),
@@ -65,7 +65,7 @@ impl Code {
         }
     }
 
-    fn word_of(&self, message: &[u8]) -> Vec<u8> {
+    pub(crate) fn word_of(&self, message: &[u8]) -> Vec<u8> {
         let points = self.points.iter();
         points.map(|&point| self.value(message, point)).collect()
     }
@@ -87,7 +87,7 @@ impl Code {
         self.field.product(x_part, y_part)
     }
 
-    fn only_fitting_message(&self, word: &[u8]) -> Result<Vec<u8>, Outcome> {
+    pub(crate) fn only_fitting_message(&self, word: &[u8]) -> Result<Vec<u8>, Outcome> {
         match linear::solve(self.field, self.equations(word), self.terms.len()) {
             Solutions::None => Err(Outcome::NO_MESSAGE_FITS),
             Solutions::One(message) => Ok(message),
@@ -111,7 +111,7 @@ impl Code {
             .collect()
     }
 
-    fn term_values(&self, point: Point) -> Vec<u8> {
+    pub(crate) fn term_values(&self, point: Point) -> Vec<u8> {
         let terms = self.terms.iter();
         terms.map(|&term| self.term_value(term, point)).collect()
     }

@@ -71,6 +71,15 @@ impl Curve {
         self.genus
     }
 
+    /// t of request T-03, the most wrong symbols that are mended: n - m - 1 - g
+    /// halved and rounded down. There is none if n - m - 1 is less than g.
+    pub fn radius(self, m: u8) -> Option<usize> {
+        let rest = self
+            .point_count
+            .checked_sub(usize::from(m) + 1 + self.genus)?;
+        Some(rest / 2)
+    }
+
     /// The points by x ascending, then y ascending; the index is the place.
     pub fn points(self) -> Vec<Point> {
         let size = self.field.size();
@@ -211,6 +220,26 @@ mod tests {
                 assert_eq!(curve.terms(m).len(), usize::from(m) + 1 - g);
             }
         }
+    }
+
+    #[test]
+    fn the_radius_of_each_order() {
+        let small: Vec<Option<usize>> = (0..=8).map(|m| Curve::Q_IS_2.radius(m)).collect();
+        let expected = [3, 2, 2, 1, 1, 0, 0].map(Some);
+        assert_eq!(small[..7], expected);
+        assert_eq!(small[7..], [None, None]);
+        for (m, radius) in [
+            (0, 28),
+            (1, 28),
+            (2, 27),
+            (37, 10),
+            (55, 1),
+            (56, 0),
+            (57, 0),
+        ] {
+            assert_eq!(Curve::Q_IS_4.radius(m), Some(radius));
+        }
+        assert!((58..=255).all(|m| Curve::Q_IS_4.radius(m).is_none()));
     }
 
     #[test]

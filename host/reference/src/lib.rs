@@ -1,9 +1,11 @@
 //! The second implementation of the Hermitian block code of paper 01.
 //!
-//! It is written from paper 01 alone, to be compared with the proved library.
-//! Every method here is the plainest one: field products by shifting bits,
-//! encoding by evaluating each term at each point, and unencoding and recovery
-//! by Gauss elimination on one equation for each known symbol.
+//! It is written from paper 01 and the requests of paper 02 alone, to be compared
+//! with the proved library. Every method here is the plainest one: field products
+//! by shifting bits, encoding by evaluating each term at each point, unencoding
+//! and recovery by Gauss elimination on one equation for each known symbol, and
+//! mending by trying every message, or on the larger curve by Gauss elimination
+//! and recovery.
 
 #![forbid(unsafe_code)]
 
@@ -17,6 +19,8 @@ pub mod field;
 pub mod file_pair;
 pub mod generator;
 mod linear;
+pub mod mend;
+pub mod mend_sample;
 pub mod outcome;
 pub mod page;
 pub mod record_sample;

@@ -22,7 +22,7 @@ pub enum Solutions {
 
 /// Each equation must have `unknowns` coefficients.
 pub fn solve(field: Field, mut equations: Vec<Equation>, unknowns: usize) -> Solutions {
-    let rank = reduce(field, &mut equations, unknowns);
+    let rank = reduce(field, &mut equations, unknowns).len();
     // From the rank on every coefficient is 0, so a value must be 0 too.
     if equations.iter().skip(rank).any(|rest| rest.value != 0) {
         return Solutions::None;
@@ -37,18 +37,39 @@ pub fn solve(field: Field, mut equations: Vec<Equation>, unknowns: usize) -> Sol
     Solutions::One(values.collect())
 }
 
-/// Brings the equations to reduced row echelon form and gives the rank.
-fn reduce(field: Field, equations: &mut [Equation], unknowns: usize) -> usize {
-    let mut rank = 0;
+/// A solution other than all 0 of the equations with these coefficients and the
+/// value 0, if there is one. Each equation must have `unknowns` coefficients.
+pub fn nonzero_solution(field: Field, rows: Vec<Vec<u8>>, unknowns: usize) -> Option<Vec<u8>> {
+    let with_value_0 = |coefficients| Equation {
+        coefficients,
+        value: 0,
+    };
+    let mut equations: Vec<Equation> = rows.into_iter().map(with_value_0).collect();
+    let pivots = reduce(field, &mut equations, unknowns);
+    let free = (0..unknowns).find(|column| !pivots.contains(column))?;
+    let mut solution = vec![0; unknowns];
+    solution[free] = 1;
+    // The other free unknowns are 0, and minus is plus in characteristic 2.
+    for (equation, &pivot) in equations.iter().zip(&pivots) {
+        solution[pivot] = equation.coefficients[free];
+    }
+    Some(solution)
+}
+
+/// Brings the equations to reduced row echelon form and gives the pivots'
+/// columns by row. Their number is the rank.
+fn reduce(field: Field, equations: &mut [Equation], unknowns: usize) -> Vec<usize> {
+    let mut pivots = Vec::new();
     for column in 0..unknowns {
+        let rank = pivots.len();
         let pivot = (rank..equations.len()).find(|&row| equations[row].coefficients[column] != 0);
         if let Some(pivot) = pivot {
             equations.swap(rank, pivot);
             clear_column(field, equations, rank, column);
-            rank += 1;
+            pivots.push(column);
         }
     }
-    rank
+    pivots
 }
 
 /// Makes the pivot's coefficient 1 and that of every other equation 0.
@@ -134,16 +155,47 @@ mod tests {
         }
     }
 
+    /// Every two equations with value 0 in two unknowns over the field of 4.
+    #[test]
+    fn a_nonzero_solution_is_found_if_there_is_one() {
+        let field = Field::OF_4;
+        for bits in 0..1 << 8 {
+            let part = |index: u32| (bits >> (2 * index) & 3) as u8;
+            let rows = vec![vec![part(0), part(1)], vec![part(2), part(3)]];
+            let system: Vec<Equation> = rows.iter().map(|row| equation(row, 0)).collect();
+            match nonzero_solution(field, rows, 2) {
+                Some(solution) => {
+                    assert_ne!(solution, [0, 0]);
+                    assert!(solves(field, &system, &solution));
+                }
+                None => assert_eq!(by_trial(field, &system), Solutions::One(vec![0, 0])),
+            }
+        }
+    }
+
+    #[test]
+    fn more_unknowns_than_equations_leave_a_nonzero_solution() {
+        // b = 2 * c and a = 3 * c, with d free too but 0.
+        let rows = vec![vec![0, 1, 2, 1], vec![1, 0, 3, 2]];
+        let solution = nonzero_solution(Field::OF_4, rows, 4);
+        assert_eq!(solution, Some(vec![3, 2, 1, 0]));
+        assert_eq!(nonzero_solution(Field::OF_4, vec![], 1), Some(vec![1]));
+        assert_eq!(nonzero_solution(Field::OF_4, vec![], 0), None);
+    }
+
+    fn solves(field: Field, system: &[Equation], values: &[u8]) -> bool {
+        system.iter().all(|equation| {
+            let products = equation.coefficients.iter().zip(values);
+            let sum = products.fold(0, |sum, (&c, &v)| field.sum(sum, field.product(c, v)));
+            sum == equation.value
+        })
+    }
+
     fn by_trial(field: Field, system: &[Equation]) -> Solutions {
         let candidates = (0..16).map(|bits| vec![bits >> 2, bits & 3]);
-        let solves = |values: &Vec<u8>| {
-            system.iter().all(|equation| {
-                let products = equation.coefficients.iter().zip(values);
-                let sum = products.fold(0, |sum, (&c, &v)| field.sum(sum, field.product(c, v)));
-                sum == equation.value
-            })
-        };
-        let found: Vec<Vec<u8>> = candidates.filter(solves).collect();
+        let found: Vec<Vec<u8>> = candidates
+            .filter(|values| solves(field, system, values))
+            .collect();
         match found.len() {
             0 => Solutions::None,
             1 => Solutions::One(found[0].clone()),

@@ -16,6 +16,8 @@ impl Outcome {
     pub const PLACE_TOO_HIGH: Outcome = Outcome::plain(6);
     pub const SYMBOL_TOO_HIGH: Outcome = Outcome::plain(7);
     pub const NO_MESSAGE_FITS: Outcome = Outcome::plain(9);
+    pub const NO_CODEWORD_NEAR: Outcome = Outcome::plain(11);
+    pub const ORDER_TOO_HIGH_TO_MEND: Outcome = Outcome::plain(12);
     pub const INVERSE_OF_ZERO: Outcome = Outcome::plain(13);
 
     const fn plain(number: u8) -> Outcome {
@@ -70,6 +72,9 @@ mod tests {
             Outcome::SYMBOL_TOO_HIGH,
             Outcome::NO_MESSAGE_FITS,
             Outcome::several_messages_fit(0),
+            Outcome::NO_CODEWORD_NEAR,
+            Outcome::ORDER_TOO_HIGH_TO_MEND,
+            Outcome::INVERSE_OF_ZERO,
         ];
         // Request T-01: refusal 8 no longer occurs.
         let expected = (0u8..).filter(|&number| number != 8);

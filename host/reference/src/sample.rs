@@ -1,5 +1,7 @@
 //! Arbitrary messages and words to try the code on.
 
+pub mod misleading;
+
 use crate::code::{self, MISSING};
 use crate::curve::Curve;
 use crate::generator::Generator;
@@ -33,6 +35,11 @@ impl Shape {
     /// The shape of every accepted order of both curves.
     pub fn every() -> impl Iterator<Item = Shape> {
         Curve::BOTH.into_iter().flat_map(Shape::every_order)
+    }
+
+    /// The shape of every order at which words are mended, with its t.
+    pub fn every_mended() -> impl Iterator<Item = (Shape, usize)> {
+        Shape::every().filter_map(|shape| Some((shape, shape.curve.radius(shape.m)?)))
     }
 
     pub fn q(self) -> u8 {
@@ -102,6 +109,49 @@ pub fn damaged(generator: &mut Generator, shape: Shape, word: &[u8]) -> Vec<u8> 
     damaged
 }
 
+/// The word with other symbols at `count` arbitrary places.
+pub fn with_wrong(generator: &mut Generator, shape: Shape, word: &[u8], count: usize) -> Vec<u8> {
+    let mut wrong = word.to_vec();
+    for place in generator.permutation(word.len()).into_iter().take(count) {
+        wrong[place] = another_symbol(generator, shape, word[place]);
+    }
+    wrong
+}
+
+/// Another codeword, which agrees with the given one on m / q whole columns and
+/// nowhere else. The product of x - a over these columns a is added.
+pub fn neighbour(generator: &mut Generator, shape: Shape, codeword: &[u8]) -> Vec<u8> {
+    let field = shape.curve.field();
+    let mut columns = generator.permutation(usize::from(shape.field_size));
+    columns.truncate(usize::from(shape.m / shape.q()));
+    let points = shape.curve.points();
+    let places = points.iter().zip(codeword);
+    places
+        .map(|(point, &symbol)| field.sum(symbol, column_product(shape, &columns, point.x)))
+        .collect()
+}
+
+/// The product of x - a over the columns a.
+fn column_product(shape: Shape, columns: &[usize], x: u8) -> u8 {
+    let field = shape.curve.field();
+    let columns = columns.iter();
+    columns.fold(1, |product, &a| {
+        field.product(product, field.sum(x, a as u8))
+    })
+}
+
+/// The word with the other's symbols at the first `count` places where they
+/// differ.
+pub fn on_the_way(word: &[u8], other: &[u8], count: usize) -> Vec<u8> {
+    let mut between = word.to_vec();
+    let places = between.iter_mut().zip(other);
+    let differing = places.filter(|(symbol, other)| symbol != other);
+    for (symbol, &other) in differing.take(count) {
+        *symbol = other;
+    }
+    between
+}
+
 /// A symbol of the field other than the given one.
 pub fn another_symbol(generator: &mut Generator, shape: Shape, symbol: u8) -> u8 {
     // Adding a nonzero symbol always gives another one.
@@ -142,6 +192,7 @@ pub fn all_messages_with_words(shape: Shape) -> Vec<(Vec<u8>, Vec<u8>)> {
 #[cfg(test)]
 mod tests {
     use super::*;
+    use crate::outcome::Outcome;
 
     fn known_count(word: &[u8]) -> usize {
         word.iter().filter(|&&symbol| symbol != MISSING).count()
@@ -175,6 +226,39 @@ mod tests {
             assert_eq!(changed, known.min(1));
             assert_eq!(known_count(&other), known);
             assert!(other.iter().all(|&s| s < 16 || s == MISSING));
+        }
+    }
+
+    #[test]
+    fn as_many_symbols_are_wrong_as_asked_for() {
+        let mut generator = Generator::with_seed(43);
+        for shape in Shape::every() {
+            for count in 0..=shape.n {
+                let word = symbols(&mut generator, shape, shape.n);
+                let wrong = with_wrong(&mut generator, shape, &word, count);
+                let changed = word.iter().zip(&wrong).filter(|(a, b)| a != b).count();
+                assert_eq!(changed, count);
+                assert!(wrong.iter().all(|&symbol| symbol < shape.field_size));
+            }
+        }
+    }
+
+    #[test]
+    fn a_neighbour_agrees_on_m_by_q_columns() {
+        let mut generator = Generator::with_seed(44);
+        for shape in Shape::every() {
+            let word = codeword(&mut generator, shape);
+            let other = neighbour(&mut generator, shape, &word);
+            let agreeing = word.iter().zip(&other).filter(|(a, b)| a == b).count();
+            assert_eq!(agreeing, usize::from(shape.m - shape.m % shape.q()));
+            let mut message = vec![0; shape.k];
+            let outcome = code::unencode(shape.q(), shape.m, &other, &mut message);
+            assert_eq!(outcome, Outcome::ACCEPTED);
+            let differing = shape.n - agreeing;
+            let between = on_the_way(&word, &other, differing - 1);
+            let left = between.iter().zip(&other).filter(|(a, b)| a != b).count();
+            assert_eq!(left, 1);
+            assert_eq!(on_the_way(&word, &other, 0), word);
         }
     }
 

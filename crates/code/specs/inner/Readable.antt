@@ -8,6 +8,7 @@ use lib.ListN.{length, getD}
 use Rattle.field.proofs.Fields.{fieldOf}
 use Rattle.poly.specs.inner.Ranges.{Below}
 use Rattle.poly.specs.inner.Polynomials.{value}
+use Rattle.poly.proofs.Interpolants.{at-column}
 use Rattle.code.specs.Terms.{size}
 use Rattle.code.specs.Word.{wordOf}
 use Rattle.code.specs.Fitting.{fitting}
@@ -33,6 +34,15 @@ pub record InterpolatedInY (q : ℕ) (columns word work : List ℕ) : Type 0 whe
   pub is : (t s : ℕ) → t < length columns → s < q
       → value (fieldOf q) q (λ j. getD work (16 * t + j) 0) (columnY q columns t s) ≡ getD word (q * t + s) 0
   pub zeros : (t j : ℕ) → t < length columns → q ≤ j → j < 16 → getD work (16 * t + j) 0 ≡ 0
+
+-- both stages: the grid of the word, whose polynomial takes the word's value at the y number s of each column t
+abbrev pub gridValue : ℕ → List ℕ → List ℕ → ℕ → ℕ → ℕ
+gridValue q columns grid t s = value (fieldOf q) q (at-column (fieldOf q) q columns grid t) (columnY q columns t s)
+
+pub record GridOf (q : ℕ) (columns word grid : List ℕ) : Type 0 where
+  pub long : length grid ≡ q * length columns
+  pub symbols : Below (fieldOf q .size) grid
+  pub is : (t s : ℕ) → t < length columns → s < q → gridValue q columns grid t s ≡ getD word (q * t + s) 0
 
 -- ---- the message
 

@@ -10,6 +10,10 @@ use Rattle.poly.specs.inner.Linear.{entry}
 unfoldable pub added : Field → ℕ → ℕ → List ℕ → List ℕ → List ℕ
 added F c n src dst = writes dst n (λ j. plus (entry dst j) (F .times c (entry src j)))
 
+-- dst with src added, at the first n places
+unfoldable pub summed : ℕ → List ℕ → List ℕ → List ℕ
+summed n src dst = writes dst n (λ j. plus (entry dst j) (entry src j))
+
 -- row with its first n elements multiplied by c
 unfoldable pub scaled : Field → ℕ → ℕ → List ℕ → List ℕ
 scaled F c n row = writes row n (λ j. F .times c (entry row j))

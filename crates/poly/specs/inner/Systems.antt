@@ -1,5 +1,5 @@
 -- Systems of linear equations in k unknowns that are triangular: row p, where there is one, ends at the unknown p.
-use mathlib.Core.Bool.{Bool, not}
+use mathlib.Core.Bool.{Bool, true, false, not}
 use mathlib.Core.List.{List}
 use mathlib.Core.Logic.{_⊎_, _↔_}
 use mathlib.Core.Path.{_≡_}
@@ -81,8 +81,28 @@ Brought F stride k work r work′ Pivot =
 Brought F stride k work r work′ Redundant = Joined F k (flat stride k work) r (flat stride k work′) × (work′ ≡ work)
 Brought F stride k work r work′ Contradiction = Excluded F k (flat stride k work) r × (work′ ≡ work)
 
+-- the first k elements of message are symbols that satisfy S
+pub record Solution (F : Field) (k : ℕ) (S : System) (message : List ℕ) : Type 0 where
+  pub symbols : (j : ℕ) → j < k → entry message j < F .size
+  pub satisfies : Satisfies F k S (entry message)
+
 -- message satisfies S, and no other k symbols do
 pub record Solves (F : Field) (k : ℕ) (S : System) (message : List ℕ) : Type 0 where
   pub symbols : (j : ℕ) → j < k → entry message j < F .size
   pub solution : Satisfies F k S (entry message)
   pub only : (v : ℕ → ℕ) → ((j : ℕ) → j < k → v j < F .size) → Satisfies F k S v → (j : ℕ) → j < k → v j ≡ entry message j
+
+-- the rows of all unknowns before r are present, and that of r, where r is below k, is not
+pub record FirstFree (k : ℕ) (S : System) (r : ℕ) : Type 0 where
+  pub within : r ≤ k
+  pub rows : (p : ℕ) → p < r → T (S .present p)
+  pub free : r < k → T (not (S .present r))
+
+-- symbols that satisfy S′ satisfy S, with 1 at p
+pub record Fixed (F : Field) (k : ℕ) (S : System) (p : ℕ) (S′ : System) : Type 0 where
+  pub of : (v : ℕ → ℕ) → v p < F .size → Satisfies F k S′ v → Satisfies F k S v × (v p ≡ 1)
+
+-- message satisfies S and isn't 0, being 1 at some unknown; or there is none but the one solution, every row being present
+abbrev pub NonzeroSolved : Field → ℕ → System → List ℕ → Bool → Type 0
+NonzeroSolved F k S message true = Solution F k S message × ((p : ℕ) × (p < k) × (entry message p ≡ 1))
+NonzeroSolved F k S message false = Full k S

@@ -3,6 +3,7 @@
 use hermitian::entries;
 use reference::code;
 use reference::generator::Generator;
+use reference::mend;
 use reference::outcome::Outcome;
 use reference::sample::Shape;
 
@@ -14,52 +15,57 @@ pub enum Entry {
     Encode,
     Unencode,
     Recover,
+    Mend,
 }
 
 impl Entry {
-    pub const ALL: [Entry; 3] = [Entry::Encode, Entry::Unencode, Entry::Recover];
+    pub const COUNT: usize = 4;
+
+    pub const ALL: [Entry; Entry::COUNT] =
+        [Entry::Encode, Entry::Unencode, Entry::Recover, Entry::Mend];
 
     pub fn name(self) -> &'static str {
         match self {
             Entry::Encode => "encode",
             Entry::Unencode => "unencode",
             Entry::Recover => "recover",
+            Entry::Mend => "mend",
         }
     }
 
-    /// The lengths of the input and of the output that aren't refused.
-    pub fn lengths(self, shape: Shape) -> (usize, usize) {
+    pub fn output_count(self) -> usize {
         match self {
-            Entry::Encode => (shape.k, shape.n),
-            Entry::Unencode | Entry::Recover => (shape.n, shape.k),
+            Entry::Encode | Entry::Unencode | Entry::Recover => 1,
+            Entry::Mend => 3,
         }
     }
 
-    fn of_library(self) -> entries::Entry {
+    /// The length of the input that isn't refused.
+    pub fn input_length(self, shape: Shape) -> usize {
         match self {
-            Entry::Encode => entries::hermitian_encode,
-            Entry::Unencode => entries::hermitian_unencode,
-            Entry::Recover => entries::hermitian_recover,
+            Entry::Encode => shape.k,
+            Entry::Unencode | Entry::Recover | Entry::Mend => shape.n,
         }
     }
 
-    fn of_reference(self) -> fn(u8, u8, &[u8], &mut [u8]) -> Outcome {
+    /// The lengths of the outputs that aren't refused.
+    pub fn output_lengths(self, shape: Shape) -> Vec<usize> {
         match self {
-            Entry::Encode => code::encode,
-            Entry::Unencode => code::unencode,
-            Entry::Recover => code::recover,
+            Entry::Encode => vec![shape.n],
+            Entry::Unencode | Entry::Recover => vec![shape.k],
+            Entry::Mend => vec![shape.k, shape.n, shape.n],
         }
     }
 }
 
-/// The arguments of one call; the output's bytes are there to be left alone
+/// The arguments of one call; the outputs' bytes are there to be left alone
 /// or written over.
 pub struct Call {
     pub entry: Entry,
     pub q: u8,
     pub m: u8,
     pub input: Vec<u8>,
-    pub output_length: usize,
+    pub output_lengths: Vec<usize>,
 }
 
 impl Call {
@@ -70,67 +76,144 @@ impl Call {
             q: shape.q(),
             m: shape.m,
             input,
-            output_length: entry.lengths(shape).1,
+            output_lengths: entry.output_lengths(shape),
         }
     }
 }
 
-/// Makes the call both ways, demands the same answer and the same bytes, and
-/// that the library wrote nothing else.
+/// Makes the call both ways and compares all that they give.
 pub fn compare(call: &Call, generator: &mut Generator, tally: &mut Tally) {
-    let before = generator.bytes(call.output_length);
+    compare_with(
+        |outputs| call_reference(call, outputs).packed(),
+        call,
+        generator,
+        tally,
+    );
+}
+
+/// Makes the call, demands the same answer and the same bytes as `expect` gives
+/// and writes, and that the library wrote nothing else.
+pub fn compare_with(
+    expect: impl FnOnce(&mut [Vec<u8>]) -> u32,
+    call: &Call,
+    generator: &mut Generator,
+    tally: &mut Tally,
+) {
+    let lengths = call.output_lengths.iter();
+    let before: Vec<Vec<u8>> = lengths.map(|&length| generator.bytes(length)).collect();
     let input = Guarded::around(generator, &call.input);
-    let mut output = Guarded::around(generator, &before);
-    let answer = call_library(call, &input, &mut output);
+    let mut outputs: Vec<Guarded> = before
+        .iter()
+        .map(|bytes| Guarded::around(generator, bytes))
+        .collect();
+    let answer = call_library(call, &input, &mut outputs);
 
-    let mut expected_output = before;
-    let expected =
-        call.entry.of_reference()(call.q, call.m, &call.input, &mut expected_output).packed();
+    let mut expected_outputs = before;
+    let expected = expect(&mut expected_outputs);
 
-    let as_expected = answer == expected && output.lent() == expected_output;
+    let same_bytes = outputs.iter().map(Guarded::lent).eq(&expected_outputs);
     assert!(
-        as_expected,
-        "{}: the library answers {answer} with {:?}, the reference {expected} with {expected_output:?}",
+        answer == expected && same_bytes,
+        "{}: the library answers {answer} with {:?}, expected is {expected} with {expected_outputs:?}",
         described(call),
-        output.lent()
+        outputs.iter().map(Guarded::lent).collect::<Vec<_>>()
     );
     assert!(input.is_unchanged(), "{}: input written", described(call));
     assert!(
-        output.guards_are_unchanged(),
-        "{}: written beside the output",
+        outputs.iter().all(Guarded::guards_are_unchanged),
+        "{}: written beside an output",
         described(call)
     );
     assert!(
-        answer == 0 || output.is_unchanged(),
-        "{}: refused, but the output is written",
+        answer == 0 || outputs.iter().all(Guarded::is_unchanged),
+        "{}: refused, but an output is written",
         described(call)
     );
     tally.count(call.entry, call.q, call.m, (answer >> 16) as u8);
 }
 
-fn call_library(call: &Call, input: &Guarded, output: &mut Guarded) -> u32 {
-    let lent = output.lent_mut();
+fn call_library(call: &Call, input: &Guarded, outputs: &mut [Guarded]) -> u32 {
+    match (call.entry, outputs) {
+        (Entry::Encode, [word]) => call_plain(entries::hermitian_encode, call, input, word),
+        (Entry::Unencode, [message]) => {
+            call_plain(entries::hermitian_unencode, call, input, message)
+        }
+        (Entry::Recover, [message]) => call_plain(entries::hermitian_recover, call, input, message),
+        (Entry::Mend, [message, mended, marks]) => call_mend(call, input, message, mended, marks),
+        (entry, outputs) => no_such_call(entry, outputs.len()),
+    }
+}
+
+fn call_plain(entry: entries::Entry, call: &Call, input: &Guarded, output: &mut Guarded) -> u32 {
+    let (input, output) = (input.lent(), output.lent_mut());
     // Safety: slices are never null and are good for their length, and the
     // two come from different vectors.
     unsafe {
-        call.entry.of_library()(
+        entry(
             call.q,
             call.m,
-            input.lent().as_ptr(),
-            input.lent().len(),
-            lent.as_mut_ptr(),
-            lent.len(),
+            input.as_ptr(),
+            input.len(),
+            output.as_mut_ptr(),
+            output.len(),
         )
     }
 }
 
+fn call_mend(
+    call: &Call,
+    word: &Guarded,
+    message: &mut Guarded,
+    mended: &mut Guarded,
+    marks: &mut Guarded,
+) -> u32 {
+    let word = word.lent();
+    let (message, mended, marks) = (message.lent_mut(), mended.lent_mut(), marks.lent_mut());
+    // Safety: as for the other entries; the four come from different vectors.
+    unsafe {
+        entries::hermitian_mend(
+            call.q,
+            call.m,
+            word.as_ptr(),
+            word.len(),
+            message.as_mut_ptr(),
+            message.len(),
+            mended.as_mut_ptr(),
+            mended.len(),
+            marks.as_mut_ptr(),
+            marks.len(),
+        )
+    }
+}
+
+fn call_reference(call: &Call, outputs: &mut [Vec<u8>]) -> Outcome {
+    let (q, m, input) = (call.q, call.m, &call.input);
+    match (call.entry, outputs) {
+        (Entry::Encode, [word]) => code::encode(q, m, input, word),
+        (Entry::Unencode, [message]) => code::unencode(q, m, input, message),
+        (Entry::Recover, [message]) => code::recover(q, m, input, message),
+        (Entry::Mend, [message, mended, marks]) => {
+            let (outcome, count) = mend::mend(q, m, input, message, mended, marks);
+            // From C the count is read from the marks.
+            let ones = || marks.iter().filter(|&&mark| mark == 1).count();
+            assert!(outcome != Outcome::ACCEPTED || usize::from(count) == ones());
+            outcome
+        }
+        (entry, outputs) => no_such_call(entry, outputs.len()),
+    }
+}
+
+fn no_such_call(entry: Entry, output_count: usize) -> ! {
+    panic!("{} doesn't take {output_count} outputs", entry.name())
+}
+
 fn described(call: &Call) -> String {
     format!(
-        "{} at q = {}, m = {}, input {:?}, output length {}",
+        "{} at q = {}, m = {}, input {:?}, output lengths {:?}",
         call.entry.name(),
         call.q,
         call.m,
         call.input,
-        call.output_length
+        call.output_lengths
     )
 }

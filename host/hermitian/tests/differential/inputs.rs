@@ -77,20 +77,23 @@ fn every_small(generator: &mut Generator, entry: Entry, base: u32) -> Tally {
     tally
 }
 
-/// Every curve number with every order, with lengths that fit some curve.
+/// Every curve number with every order, by every entry, with lengths that fit
+/// some curve.
 pub fn every_curve_number_and_order(generator: &mut Generator) -> Tally {
     let mut tally = Tally::new();
     for q in 0..=255 {
         for m in 0..=255 {
-            let entry = Entry::ALL[generator.below(3)];
-            let call = Call {
-                entry,
-                q,
-                m,
-                input: vec![0; [8, 32, 64][generator.below(3)]],
-                output_length: [8, 32, 64][generator.below(3)],
-            };
-            compare(&call, generator, &mut tally);
+            for entry in Entry::ALL {
+                let mut length = |_| [8, 32, 64][generator.below(3)];
+                let call = Call {
+                    entry,
+                    q,
+                    m,
+                    input: vec![0; length(0)],
+                    output_lengths: (0..entry.output_count()).map(length).collect(),
+                };
+                compare(&call, generator, &mut tally);
+            }
         }
     }
     tally
@@ -102,7 +105,7 @@ pub fn every_byte(generator: &mut Generator) -> Tally {
     for shape in Shape::every() {
         for entry in Entry::ALL {
             for value in shape.field_size..=255 {
-                let length = entry.lengths(shape).0;
+                let length = entry.input_length(shape);
                 let mut input = sample::symbols(generator, shape, length);
                 input[generator.below(length)] = value;
                 compare(&Call::fitting(entry, shape, input), generator, &mut tally);
@@ -118,14 +121,14 @@ pub fn faulty(generator: &mut Generator, rounds: usize) -> Tally {
     let shapes: Vec<Shape> = Shape::every().collect();
     for round in 0..rounds {
         let shape = shapes[generator.below(shapes.len())];
-        let call = faulty_call(Entry::ALL[round % 3], shape, generator);
+        let call = faulty_call(Entry::ALL[round % Entry::COUNT], shape, generator);
         compare(&call, generator, &mut tally);
     }
     tally
 }
 
 fn faulty_call(entry: Entry, shape: Shape, generator: &mut Generator) -> Call {
-    let (input_length, output_length) = entry.lengths(shape);
+    let input_length = entry.input_length(shape);
     let input = sample::symbols(generator, shape, input_length);
     let mut call = Call::fitting(entry, shape, input);
     // The rarest fault first in the order of the checks, so that each number
@@ -143,8 +146,10 @@ fn faulty_call(entry: Entry, shape: Shape, generator: &mut Generator) -> Call {
     for _ in 0..generator.below(4) {
         write_arbitrary_value(&mut call.input, shape, generator);
     }
-    if generator.below(2) == 0 {
-        call.output_length = wrong_length(output_length, generator);
+    for length in &mut call.output_lengths {
+        if generator.below(entry.output_count() + 1) == 0 {
+            *length = wrong_length(*length, generator);
+        }
     }
     call
 }

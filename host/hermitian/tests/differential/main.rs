@@ -4,6 +4,7 @@
 mod comparison;
 mod guarded;
 mod inputs;
+mod mending;
 mod tally;
 
 use std::io::Write;
@@ -14,19 +15,23 @@ use reference::generator::Generator;
 use tally::Tally;
 
 const LEAST_CALLS: u64 = 200_000;
+const LEAST_MEND_CALLS: u64 = 100_000;
 
 type Group = (&'static str, fn(&mut Generator) -> Tally);
 
 /// The mix follows what the reference costs: some microseconds at q = 2, up
 /// to some milliseconds at the high orders of q = 4.
-const GROUPS: [Group; 7] = [
+const GROUPS: [Group; 10] = [
     ("every order", |g| inputs::at_every_order(g, 12)),
     ("strap blocks", |g| inputs::strap_blocks(g, 3_250)),
-    ("faulty calls", |g| inputs::faulty(g, 60_000)),
+    ("faulty calls", |g| inputs::faulty(g, 80_000)),
     ("every byte", inputs::every_byte),
     ("every q and m", inputs::every_curve_number_and_order),
     ("small whole words", inputs::every_small_word),
     ("small broken words", inputs::every_small_broken_word),
+    ("mending, every order", |g| mending::at_every_order(g, 6)),
+    ("mending, strap blocks", |g| mending::strap_blocks(g, 4_500)),
+    ("mending, small words", mending::every_small_word),
 ];
 
 #[test]
@@ -39,6 +44,7 @@ fn the_library_answers_as_the_reference() {
     }
     say(&all.to_string());
     assert!(all.total() >= LEAST_CALLS);
+    assert!(all.calls_of(Entry::Mend) >= LEAST_MEND_CALLS);
     every_answer_occurred(&all);
     every_order_was_accepted(&all);
 }
@@ -82,14 +88,15 @@ fn say(line: &str) {
 
 /// Refusals 6 and 7 are those of sessions, which have no C entry; 8 no longer
 /// occurs; a message always has a word; a whole word never leaves several
-/// messages.
+/// messages; 11 and 12 are those of mending, which has no 9 and no 10.
 fn every_answer_occurred(tally: &Tally) {
     for entry in Entry::ALL {
-        for number in 0..=10 {
+        for number in 0..=12 {
             let possible = match number {
                 0..=5 => true,
-                9 => entry != Entry::Encode,
+                9 => matches!(entry, Entry::Unencode | Entry::Recover),
                 10 => entry == Entry::Recover,
+                11 | 12 => entry == Entry::Mend,
                 _ => false,
             };
             let count = tally.of(entry, number);
@@ -98,12 +105,14 @@ fn every_answer_occurred(tally: &Tally) {
     }
 }
 
+/// From the order n - g on nothing is mended.
 fn every_order_was_accepted(tally: &Tally) {
     for entry in Entry::ALL {
-        for (q, n) in [(2, 8), (4, 64)] {
+        for (q, n, g) in [(2, 8, 1), (4, 64, 6)] {
             for m in 0..n {
+                let possible = entry != Entry::Mend || m < n - g;
                 let count = tally.accepted_at(entry, q, m);
-                assert!(count > 0, "{} at q = {q}, m = {m}", entry.name());
+                assert_eq!(count > 0, possible, "{} at q = {q}, m = {m}", entry.name());
             }
         }
     }

@@ -4,22 +4,22 @@ use std::fmt;
 
 use crate::comparison::Entry;
 
-const NUMBERS: usize = 11;
+const NUMBERS: usize = 13;
 const ORDERS: usize = 64;
 
 /// Answers by entry and refusal number, 0 for an accepted call.
 #[derive(Clone)]
 pub struct Tally {
-    answers: [[u64; NUMBERS]; 3],
+    answers: [[u64; NUMBERS]; Entry::COUNT],
     /// Accepted calls by entry and order, for q = 2 and for q = 4.
-    accepted: [[[u64; ORDERS]; 2]; 3],
+    accepted: [[[u64; ORDERS]; 2]; Entry::COUNT],
 }
 
 impl Tally {
     pub fn new() -> Tally {
         Tally {
-            answers: [[0; NUMBERS]; 3],
-            accepted: [[[0; ORDERS]; 2]; 3],
+            answers: [[0; NUMBERS]; Entry::COUNT],
+            accepted: [[[0; ORDERS]; 2]; Entry::COUNT],
         }
     }
 
@@ -45,6 +45,10 @@ impl Tally {
 
     pub fn of(&self, entry: Entry, number: u8) -> u64 {
         self.answers[entry as usize][usize::from(number)]
+    }
+
+    pub fn calls_of(&self, entry: Entry) -> u64 {
+        self.answers[entry as usize].iter().sum()
     }
 
     pub fn accepted_at(&self, entry: Entry, q: u8, m: u8) -> u64 {

@@ -6,6 +6,7 @@ use reference::code::MISSING;
 use reference::curve::Curve;
 use reference::file_pair;
 use reference::generator::Generator;
+use reference::mend_sample::mend_cases;
 use reference::sample::{self, Shape};
 use reference::session::{CONFLICT, PLACE_COUNT};
 use reference::worked_session::worked_sessions;
@@ -53,6 +54,7 @@ fn all_cases() -> Vec<Case> {
     builder.round_runs();
     builder.raw_sessions();
     builder.worked_sessions();
+    builder.cases.extend(mend_cases());
     builder.cases
 }
 
@@ -621,9 +623,9 @@ mod tests {
     }
 
     #[test]
-    fn there_are_about_8000_cases_and_each_fits_its_record() {
+    fn there_are_about_11000_cases_and_each_fits_its_record() {
         let cases = all_cases();
-        assert!((7600..=8600).contains(&cases.len()), "{}", cases.len());
+        assert!((10500..=11500).contains(&cases.len()), "{}", cases.len());
         for case in &cases {
             let record: [u8; RECORD_LENGTH] = case.to_record();
             assert_eq!(&Case::from_record(&record), case);
@@ -685,6 +687,7 @@ mod tests {
             ("s", vec![0]),
             ("a", vec![0, 1, 2, 4, 6, 7]),
             ("k", vec![0, 1, 2, 4, 5, 9, 10]),
+            ("m", vec![0, 1, 2, 3, 4, 5, 11, 12]),
         ];
         possible
             .into_iter()

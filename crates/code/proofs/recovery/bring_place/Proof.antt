@@ -74,11 +74,8 @@ write-equation-requires c κs =
       (omega (arith, z .size), rw (point y .2) (ys-below q (s .pre .0 .0 .curve) _ (rw (x-is y) at small) (s .args .p % q))),
     )
 
-add-n : tie.Need-add-n
-add-n c = omega arith
-
-mul-n : tie.Need-mul-n
-mul-n c = omega arith
+add-bring-in : tie.Need-add-bring-in
+add-bring-in c = omega arith
 
 slice-aggregate-bring-in : tie.Need-slice-aggregate-bring-in
 slice-aggregate-bring-in c = search needs
@@ -131,8 +128,7 @@ bring-place-spec =
     array-read-y
     slice-aggregate-write-equation
     write-equation-requires
-    add-n
-    mul-n
+    add-bring-in
     slice-aggregate-bring-in
     bring-in-requires
     same-length

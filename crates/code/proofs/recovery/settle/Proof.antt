@@ -5,7 +5,8 @@ use Prim.Native.Nat.{ℕ}
 use native.Mathlib.Omega.{arith}
 use denote.Ref.{now}
 use Rattle.field.proofs.Fields.{fieldOf}
-use Rattle.poly.specs.inner.Systems.{flat, Full, WellFormed, Solves}
+use Rattle.poly.specs.inner.Systems.{flat, WellFormed, Solution, Solves}
+use Rattle.poly.proofs.Substitution.{solves-full}
 use Rattle.code.specs.Terms.{size}
 use Rattle.code.specs.Fitting.{agrees, fits}
 use Rattle.code.proofs.Collecting.{solution-below}
@@ -19,15 +20,15 @@ solution : (c : tie.After-solve) → let x = c .before .before .before .before .
 solution c =
     let s = c .before .before .before .before .before .before .before in
     let x = s .args in
-    subst (λ (k : ℕ). Solves (fieldOf (x .q)) k (flat 64 k (now (x .work))) (c .solve .last .1 .1 .1 .1 .0)) (s .pre .0 .1) (c .solve .ensures)
+    solves-full (fieldOf (x .q)) 64 (size (x .q) (x .m)) (now (x .work)) (s .pre .1 .0 .0) (s .pre .1 .0 .1) (c .solve .last .1 .1 .1 .1 .0)
+    (subst (λ (k : ℕ). Solution (fieldOf (x .q)) k (flat 64 k (now (x .work))) (c .solve .last .1 .1 .1 .1 .0)) (s .pre .0 .1) (c .solve .ensures))
 
 solve-requires : tie.Need-solve-requires
 solve-requires c κs =
     let s = c .before .before .before .before .before .before in
-    let x = s .args in
-    let is-k = sym (s .pre .0 .1) in (
-      (subst (λ (k : ℕ). WellFormed (fieldOf (x .q)) 64 k (now (x .work))) is-k (s .pre .1 .0 .0), omega (arith, s .pre .0 .1, s .pre .1 .1 .0)),
-      subst (λ (k : ℕ). Full k (flat 64 k (now (x .work)))) is-k (s .pre .1 .0 .1),
+    let x = s .args in (
+      subst (λ (k : ℕ). WellFormed (fieldOf (x .q)) 64 k (now (x .work))) (sym (s .pre .0 .1)) (s .pre .1 .0 .0),
+      omega (arith, s .pre .0 .1, s .pre .1 .1 .0),
     )
 
 write-word-requires : tie.Need-write-word-requires

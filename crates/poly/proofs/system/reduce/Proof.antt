@@ -13,10 +13,10 @@ use Rattle.poly.proofs.system.reduce.Statement.{statement}
 use Rattle.poly.proofs.system.reduce.Tie as tie
 
 abbrev Inv-loop : tie.InvT-loop
-Inv-loop q stride n k work row₀ p₀ row p = Reducing (fieldOf q) k (flat stride k work) row₀ row p
+Inv-loop q stride blocks k work row₀ p₀ row p = Reducing (fieldOf q) k (flat stride k work) row₀ row p
 
 abbrev μ-loop : tie.MeasureT-loop
-μ-loop q stride n k work row₀ p₀ row p = p
+μ-loop q stride blocks k work row₀ p₀ row p = p
 
 -- row p - 1 is within work, in a turn
 fits : (c : tie.In-loop Inv-loop μ-loop) → let s = c .before .before .before .before in
@@ -97,7 +97,7 @@ loop-again c =
     let l = c .before .before .before .before .before .before .before .before .before .before .loop in
     rw (c .before .before .add-scaled .ensures)
     (reducing-turn _ (s .args .stride) (s .args .k) (s .args .work .now) (s .args .row .now) (s .pre .0 .0) (s .pre .0 .1) (l .row) (l .p) (l .inv)
-    (c .before .before .before .before .before .before .before .before .before .loop-test .taken) (s .args .n) (s .pre .1 .0) (s .pre .1 .1)
+    (c .before .before .before .before .before .before .before .before .before .loop-test .taken) (16 * s .args .blocks) (s .pre .1 .0) (s .pre .1 .1)
     (omega (arith, l .inv .long, s .pre .1 .2)) (c .before .before .before .before .before .if2 .left))
 
 loop-less-2 : tie.Need-loop-less-2 Inv-loop μ-loop

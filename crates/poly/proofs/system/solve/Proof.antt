@@ -23,12 +23,12 @@ fits : (c : tie.In-loop Inv-loop μ-loop) → let s = c .before .before .before 
     c .before .loop .p * s .args .stride + s .args .stride ≤ length (s .args .work .now)
 fits c =
     let s = c .before .before .before .before in
-    row-fits _ (s .args .stride) (s .args .k) (s .args .work .now) (s .pre .0 .0) (c .before .loop .p) (c .loop-test .taken)
+    row-fits _ (s .args .stride) (s .args .k) (s .args .work .now) (s .pre .0) (c .before .loop .p) (c .loop-test .taken)
 
 loop-holds : tie.Need-loop-holds Inv-loop μ-loop
 loop-holds c =
     let s = c .before .before in
-    solving-start _ (s .args .stride) (s .args .k) (s .args .work .now) (s .pre .0 .0) (s .args .message .now)
+    solving-start _ (s .args .stride) (s .args .k) (s .args .work .now) (s .pre .0) (s .args .message .now)
 
 mul-base : tie.Need-mul-base Inv-loop μ-loop
 mul-base c = omega (arith, fits c)
@@ -37,10 +37,10 @@ add-end : tie.Need-add-end Inv-loop μ-loop
 add-end c = omega (arith, fits c)
 
 add-start : tie.Need-add-start Inv-loop μ-loop
-add-start c = omega (arith, fits c, c .before .before .before .before .pre .0 .0 .room)
+add-start c = omega (arith, fits c, c .before .before .before .before .pre .0 .room)
 
 shared-slice-read-start : tie.Need-shared-slice-read-start Inv-loop μ-loop
-shared-slice-read-start c = omega (arith, fits (c .before), c .before .before .before .before .before .pre .0 .0 .room)
+shared-slice-read-start c = omega (arith, fits (c .before), c .before .before .before .before .before .pre .0 .room)
 
 sub-dot : tie.Need-sub-dot Inv-loop μ-loop
 sub-dot c = omega arith
@@ -57,8 +57,8 @@ dot-requires c κs =
     let l = c .before .before .before .before .loop in
     let base : ℕ = l .p * s .args .stride in
     let n = length-part (s .args .work .now) base (base + s .args .stride) (omega arith) (fits (c .before .before .before)) in (
-      (omega (arith, n, s .pre .0 .0 .room), omega (arith, l .inv .long)),
-      λ j h. (below-part _ (s .args .work .now) base (base + s .args .stride) (s .pre .0 .0 .symbols) j, l .inv .symbols j h),
+      (omega (arith, n, s .pre .0 .room), omega (arith, l .inv .long)),
+      λ j h. (below-part _ (s .args .work .now) base (base + s .args .stride) (s .pre .0 .symbols) j, l .inv .symbols j h),
     )
 
 slice-write-message : tie.Need-slice-write-message Inv-loop μ-loop
@@ -74,8 +74,8 @@ loop-again : tie.Need-loop-again Inv-loop μ-loop
 loop-again c =
     let s = c .before .before .before .before .before .before .before .before in
     let l = c .before .before .before .before .before .loop in
-    solving-turn _ (s .args .stride) (s .args .k) (s .args .work .now) (s .pre .0 .0) (s .args .message .now)
-    (l .message) (l .p) (c .dot .result) (s .pre .0 .1) (l .inv)
+    solving-turn _ (s .args .stride) (s .args .k) (s .args .work .now) (s .pre .0) (s .args .message .now)
+    (l .message) (l .p) (c .dot .result) (s .pre .1) (l .inv)
     (c .before .before .before .before .loop-test .taken) (c .dot .ensures)
 
 same-length : tie.Need-same-length Inv-loop μ-loop
@@ -85,7 +85,7 @@ returns : tie.Need-returns Inv-loop μ-loop
 returns c =
     let s = c .before .before .before .before in
     let l = c .before .loop in
-    solved _ (s .args .stride) (s .args .k) (s .args .work .now) (s .pre .0 .0) (s .pre .1) (s .args .message .now) (l .message)
+    solved _ (s .args .stride) (s .args .k) (s .args .work .now) (s .pre .0) (s .args .message .now) (l .message)
     (rw (le-antisymm (l .inv .within) (c .loop-test .left)) at (l .inv))
 
 pub solve-spec : {M : Type 1} → statement M

@@ -1,0 +1,150 @@
+-- `mend::candidate::read_rest` meets its contract: the message is recovered from the word without the symbols where the locator is 0.
+-- Assumes nothing.
+use mathlib.Core.List.{List}
+use mathlib.Core.Path.{_≡_, sym, ap, _∙_, subst}
+use Prim.Native.Nat.{ℕ, _≤_}
+use native.Mathlib.Omega.{arith}
+use borrow.Author.Needs.{needs}
+use denote.Ref.{now}
+use lib.ListN.{length, take}
+use lib.Seq.{length-take-le}
+use Rattle.field.proofs.Outcomes.{not-done}
+use Rattle.field.proofs.Curves.{sizes}
+use Rattle.field.proofs.Fields.{fieldOf}
+use Rattle.poly.proofs.Entries.{zeros}
+use Rattle.code.specs.Answers.{answered}
+use Rattle.code.specs.Points.{columnsOf}
+use Rattle.code.specs.Recovered.{answerOf, reading}
+use Rattle.code.specs.Terms.{size}
+use Rattle.code.specs.Word.{wordOf}
+use Rattle.code.specs.inner.Recovering.{BrokenOver}
+use Rattle.code.proofs.FullColumns.{size-short}
+use Rattle.code.proofs.Recoveries.{readingOf}
+use Rattle.mend.specs.inner.Locating.{reach, Erased}
+use Rattle.poly.proofs.Fronts.{front-fits, front-again, again-long}
+use Rattle.mend.proofs.Erasing.{locator-encodable, erased-front, erased-broken}
+use Rattle.mend.proofs.Candidates.{recovered-only, recovered-none}
+use Rattle.mend.proofs.candidate.read_rest.Statement.{statement}
+use Rattle.mend.proofs.candidate.read_rest.Tie as tie
+
+-- the word fits the array
+room : (s : tie.Start) → length (now (s .args .word)) ≤ 64
+room s = omega (arith, s .pre .0 .long, sizes (s .args .q) (s .pre .0 .curve) .points)
+
+-- as much as it is long is lent, twice, and comes back
+lent : (s : tie.Start) → length (take (length (now (s .args .word))) (zeros 64)) ≡ length (now (s .args .word))
+lent s = length-take-le (length (now (s .args .word))) (zeros 64) (room s)
+
+encoded-long : (c : tie.After-encode) → length (c .encode .last .1 .1 .1 .0) ≡ length (now (c .before .before .before .before .before .args .word))
+encoded-long c = c .encode .kept .1 .1 .1 .0 ∙ lent (c .before .before .before .before .before)
+
+erased-long : (c : tie.After-erase) → length (c .erase .last .1 .0)
+    ≡ length (now (c .before .before .before .before .before .before .before .before .args .word))
+erased-long c = c .erase .kept .1 .0 ∙ again-long _ (c .before .before .before .encode .last .1 .1 .1 .0) _ (encoded-long (c .before .before .before))
+
+-- what erasing left is the broken word of the locator
+erased : (c : tie.After-erase) → let x = c .before .before .before .before .before .before .before .before .args in
+    Erased (x .q) (reach (x .q) (x .m)) (now (x .word)) (now (x .locator)) (c .erase .last .1 .0)
+erased c =
+    let s = c .before .before .before .before .before .before .before .before in
+    let x = s .args in
+    let e = c .before .before .before .encode in
+    erased-front (x .q) (x .m) (now (x .word)) (s .pre .0) (x .s) (now (x .locator)) (e .last .1 .1 .1 .0) _ _ (s .pre .1)
+    (encoded-long (c .before .before .before)) (e .ensures) (c .erase .ensures)
+
+-- what recovery answers of it
+answer : (c : tie.After-recover) → let x = c .before .before .before .before .before .before .before .before .before .before .before .before .args in
+    answerOf (readingOf (x .q) (x .m) (c .before .before .before .before .erase .last .1 .0)) (now (x .message))
+    ≡ answered (c .recover .result) (c .recover .last .1 .1 .1 .0)
+answer c =
+    let s = c .before .before .before .before .before .before .before .before .before .before .before .before in
+    let x = s .args in
+    let e = c .before .before .before .before in
+    ap (λ (Q : ℕ). answerOf (reading Q (size (x .q) (x .m)) (wordOf (x .q) (columnsOf (x .q)) (x .m)) (e .erase .last .1 .0)) (now (x .message)))
+    (sym (sizes (x .q) (s .pre .0 .curve) .size))
+    ∙ ap (λ (l : List ℕ). answerOf (reading (fieldOf (x .q) .size) (size (x .q) (x .m)) (wordOf (x .q) (columnsOf (x .q)) (x .m)) l) (now
+    (x .message)))
+    (sym (front-again _ (e .erase .last .1 .0) _ (erased-long e)))
+    ∙ c .recover .ensures
+
+array-borrow-prefix-located : tie.Need-array-borrow-prefix-located
+array-borrow-prefix-located c = room (c .before .before .before)
+
+slice-aggregate-encode : tie.Need-slice-aggregate-encode
+slice-aggregate-encode c = sym (lent (c .before .before .before .before))
+
+encode-requires : tie.Need-encode-requires
+encode-requires c κs =
+    let s = c .before .before .before .before in
+    let x = s .args in
+    locator-encodable (x .q) (x .m) (now (x .word)) (s .pre .0) (x .s) (now (x .locator)) _ (s .pre .1) (s .pre .2) (lent s)
+
+array-borrow-prefix-located-2 : tie.Need-array-borrow-prefix-located-2
+array-borrow-prefix-located-2 c = front-fits _ (c .before .encode .last .1 .1 .1 .0) _ (encoded-long (c .before))
+
+slice-aggregate-erase : tie.Need-slice-aggregate-erase
+slice-aggregate-erase c = sym (again-long _ (c .before .before .encode .last .1 .1 .1 .0) _ (encoded-long (c .before .before)))
+
+erase-requires : tie.Need-erase-requires
+erase-requires c κs = again-long _ (c .before .before .encode .last .1 .1 .1 .0) _ (encoded-long (c .before .before))
+
+array-share-prefix-located : tie.Need-array-share-prefix-located
+array-share-prefix-located c = front-fits _ (c .before .erase .last .1 .0) _ (erased-long (c .before))
+
+slice-aggregate-recover : tie.Need-slice-aggregate-recover
+slice-aggregate-recover c = sym (again-long _ (c .before .before .erase .last .1 .0) _ (erased-long (c .before .before)))
+
+recover-requires : tie.Need-recover-requires
+recover-requires c κs =
+    let s = c .before .before .before .before .before .before .before .before .before .before .before in
+    let x = s .args in
+    let e = c .before .before .before in (
+      subst (BrokenOver (x .q) (columnsOf (x .q)) (x .m)) (sym (front-again _ (e .erase .last .1 .0) _ (erased-long e)))
+          (erased-broken (x .q) (x .m) (now (x .word)) (s .pre .0) (reach (x .q) (x .m)) (now (x .locator)) _ (erased e)),
+      s .pre .3,
+      size-short (x .q) (s .pre .0 .curve) (x .m) (omega (arith, s .pre .0 .order)),
+    )
+
+enum-told : tie.Need-enum-told
+enum-told c = search needs
+
+same-length : tie.Need-same-length
+same-length c = search needs
+
+returns : tie.Need-returns
+returns c =
+    let s = c .before .before .before .before .before .before .before .before .before .before .before .before .before .before .before in
+    let x = s .args in
+    let r = c .before .before .before in
+    recovered-none (x .q) (x .m) (now (x .word)) (s .pre .0) (now (x .locator)) _ (s .pre .2) (erased (r .before .before .before .before))
+    (now (x .message)) _ _ (answer r) (not-done (r .recover .result) (c .match .keys2))
+
+same-length-2 : tie.Need-same-length-2
+same-length-2 c = search needs
+
+returns-2 : tie.Need-returns-2
+returns-2 c =
+    let s = c .before .before .before .before .before .before .before .before .before .before .before .before .before .before .before .before in
+    let x = s .args in
+    let r = c .before .before .before .before in
+    recovered-only (x .q) (x .m) (now (x .word)) (s .pre .0) (now (x .locator)) _ (s .pre .2) (erased (r .before .before .before .before))
+    (now (x .message)) _ _ (answer r) (c .enum-told .given .1)
+
+pub read-rest-spec : {M : Type 1} → statement M
+read-rest-spec =
+    tie.close
+    (tie.spec
+    array-borrow-prefix-located
+    slice-aggregate-encode
+    encode-requires
+    array-borrow-prefix-located-2
+    slice-aggregate-erase
+    erase-requires
+    array-share-prefix-located
+    slice-aggregate-recover
+    recover-requires
+    enum-told
+    same-length
+    returns
+    same-length-2
+    returns-2)

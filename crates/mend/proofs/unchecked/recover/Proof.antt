@@ -1,0 +1,71 @@
+-- `mend::unchecked::recover` meets its contract. Assumes nothing.
+use mathlib.Core.List.{List}
+use mathlib.Core.Path.{_≡_, sym, ap, _∙_, subst}
+use Prim.Native.Nat.{ℕ}
+use borrow.Author.Needs.{needs}
+use denote.Ref.{now}
+use lib.ListN.{take}
+use Rattle.code.specs.Points.{columnsOf}
+use Rattle.code.specs.Recovered.{reading, answerOf}
+use Rattle.code.specs.Terms.{size}
+use Rattle.code.specs.Word.{wordOf}
+use Rattle.code.specs.inner.Recovering.{BrokenOver}
+use Rattle.field.proofs.Fields.{fieldOf}
+use Rattle.mend.proofs.AllColumns.{columns-are, columns-fit, columns-long}
+use Rattle.mend.proofs.unchecked.recover.Statement.{statement}
+use Rattle.mend.proofs.unchecked.recover.Tie as tie
+
+-- the columns that are lent
+columns : (c : tie.After-at) → take (c .at .result .symbols) (c .before .columns .result) ≡ columnsOf (c .before .before .before .before .args .q)
+columns c = columns-are _ (c .before .before .before .before .pre .0 .over .curve) _ _ (c .at .ensures) (c .before .columns .ensures)
+
+columns-requires : tie.Need-columns-requires
+columns-requires c κs = search needs
+
+at-requires : tie.Need-at-requires
+at-requires c κs = search needs
+
+cast-c : tie.Need-cast-c
+cast-c c = search needs
+
+array-share-prefix-columns : tie.Need-array-share-prefix-columns
+array-share-prefix-columns c = columns-fit _ (c .before .before .before .before .before .pre .0 .over .curve) _ _ (c .before .at .ensures)
+    (c .before .before .columns .ensures)
+
+slice-aggregate-recover-by-equations : tie.Need-slice-aggregate-recover-by-equations
+slice-aggregate-recover-by-equations c =
+    columns-long _ (c .before .before .before .before .before .before .pre .0 .over .curve) _ _ (c .before .before .at .ensures)
+    (c .before .before .before .columns .ensures)
+
+recover-by-equations-requires : tie.Need-recover-by-equations-requires
+recover-by-equations-requires c κs =
+    let s = c .before .before .before .before .before .before .before in
+    let x = s .args in (
+      subst (λ (l : List ℕ). BrokenOver (x .q) l (x .m) (now (x .word))) (sym (columns (c .before .before .before))) (s .pre .0),
+      s .pre .1,
+      s .pre .1,
+      s .pre .2,
+    )
+
+same-length : tie.Need-same-length
+same-length c = search needs
+
+returns : tie.Need-returns
+returns c =
+    let x = c .before .before .before .before .before .before .before .before .before .before .args in
+    ap (λ (l : List ℕ). answerOf (reading (fieldOf (x .q) .size) (size (x .q) (x .m)) (wordOf (x .q) l (x .m)) (now (x .word))) (now (x .message)))
+    (sym (columns (c .before .before .before .before .before .before)))
+    ∙ c .before .before .recover-by-equations .ensures
+
+pub recover-spec : {M : Type 1} → statement M
+recover-spec =
+    tie.close
+    (tie.spec
+    columns-requires
+    at-requires
+    cast-c
+    array-share-prefix-columns
+    slice-aggregate-recover-by-equations
+    recover-by-equations-requires
+    same-length
+    returns)

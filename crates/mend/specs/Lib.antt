@@ -1,0 +1,2 @@
+pub mod Mended
+pub mod inner

@@ -1,0 +1,3 @@
+pub mod Locating
+pub mod Products
+pub mod Candidates

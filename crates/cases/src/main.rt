@@ -2,6 +2,8 @@
 // The module `case_record` of host/reference has the layout of a record and of its line.
 ghost use Prim.Native.Nat.{_≤_};
 use field::Outcome;
+use job::Job;
+use job::Opening;
 use libc::STDIN_FILENO;
 use libc::STDOUT_FILENO;
 use session::Reply;
@@ -123,16 +125,23 @@ fn mend_case(record: [u8; 160]) {
     );
 }
 
-// A session with the places and rounds of a record.
-fn raw_session(record: [u8; 160]) -> Session {
-    let mut places = [0u8; 64];
-    let mut rounds = [0u8; 64];
+// 64 bytes of a record, from `start` on.
+fn bytes_from(start: usize, record: [u8; 160]) -> [u8; 64]
+    requires { ⌜ start ≤ 96 ⌝ }
+{
+    let mut bytes = [0u8; 64];
     let mut j = 0;
     while j < 64 {
-        places[j] = record[8 + j];
-        rounds[j] = record[80 + j];
+        bytes[j] = record[start + j];
         j += 1;
     }
+    bytes
+}
+
+// A session with the places and rounds of a record.
+fn raw_session(record: [u8; 160]) -> Session {
+    let places = bytes_from(8, record);
+    let rounds = bytes_from(80, record);
     Session {
         q: record[1],
         m: record[2],
@@ -168,7 +177,7 @@ fn session_case(session: Session, record: [u8; 160]) -> Session {
     next
 }
 
-// Runs a case at the current session and answers the one after it.
+// Runs a case of no job at the current session and answers the one after it.
 fn run_case(session: Session, record: [u8; 160]) -> Session {
     match record[0] {
         b'+' | b'*' | b'i' => {
@@ -187,10 +196,173 @@ fn run_case(session: Session, record: [u8; 160]) -> Session {
     }
 }
 
+// A job of the input as a broken word, or one of the current session.
+fn job_opening(session: Session, record: [u8; 160]) -> Opening {
+    let word_end = 8 + room(record[3] as usize);
+    match record[0] {
+        b'j' => job::open(record[1], record[2], &record[8..word_end]),
+        _ => session.job(),
+    }
+}
+
+fn opening_case(session: Session, record: [u8; 160]) -> Job {
+    let opening = job_opening(session, record);
+    let next = opening.job;
+    let outcome = opening.outcome;
+    let places = next.places;
+    print_answer(record[0], outcome);
+    print_number(next.q);
+    io::write_all(STDOUT_FILENO, &[b' ']);
+    print_number(next.m);
+    io::write_all(STDOUT_FILENO, &[b' ']);
+    print_values(&places, b'\n');
+    next
+}
+
+// What a call says of the job, with a space before and after it.
+fn print_kind(reply: job::Reply) {
+    match reply {
+        job::Reply::Refused => {
+            io::write_all(STDOUT_FILENO, b" refused ");
+        }
+        job::Reply::NoneFits | job::Reply::Leaves(_) => {
+            io::write_all(STDOUT_FILENO, b" working ");
+        }
+        job::Reply::Finished(_) => {
+            io::write_all(STDOUT_FILENO, b" finished ");
+        }
+    }
+}
+
+fn call_answer(job: Job, budget: u8, message: &mut [u8]) -> Job {
+    let turn = job.carry_on(budget, message);
+    let next = turn.job;
+    let reply = turn.reply;
+    print_answer(b'c', job::outcome(reply));
+    print_number(turn.brought);
+    print_kind(reply);
+    print_values(message, b'\n');
+    next
+}
+
+fn call_case(job: Job, record: [u8; 160]) -> Job {
+    let mut lent = record;
+    let message_end = 80 + room(record[4] as usize);
+    call_answer(job, record[5], &mut lent[80..message_end])
+}
+
+// Work bytes of which only the diagonal is set.
+fn diagonal_work(record: [u8; 160]) -> [u8; 4096] {
+    let mut work = [0u8; 4096];
+    let mut i = 0;
+    while i < 64 {
+        work[65 * i] = record[80 + i];
+        i += 1;
+    }
+    work
+}
+
+// Work bytes that are all set, from 72 bytes of the record in turn.
+fn full_work(record: [u8; 160]) -> [u8; 4096] {
+    let mut work = [0u8; 4096];
+    let mut i = 0;
+    while i < 4096 {
+        work[i] = record[80 + i % 72];
+        i += 1;
+    }
+    work
+}
+
+fn raw_work(record: [u8; 160]) -> [u8; 4096] {
+    match record[7] {
+        0 => [0u8; 4096],
+        1 => diagonal_work(record),
+        _ => full_work(record),
+    }
+}
+
+// A job that no opening gave. Byte 6 is odd if a contradiction was met, and half of it is odd if the equations are complete.
+fn raw_job(record: [u8; 160]) -> Job {
+    let work = raw_work(record);
+    let places = bytes_from(8, record);
+    let message = bytes_from(80, record);
+    Job {
+        work,
+        places,
+        candidate: message,
+        whole: message,
+        q: record[1],
+        m: record[2],
+        next: record[3],
+        complete: record[6] / 2 % 2 == 1,
+        clash: record[6] % 2 == 1,
+    }
+}
+
+fn is_same(a: [u8; 160], b: [u8; 160]) -> bool {
+    let mut j = 0;
+    while j < 160 {
+        if a[j] != b[j] {
+            return false;
+        }
+        j += 1;
+    }
+    true
+}
+
+// Whether four calls, each on the job that the one before it handed back, write the slice only with a message.
+fn keeps_slice(job: Job, record: [u8; 160]) -> bool {
+    let message_end = 80 + room(record[4] as usize);
+    let mut current = job;
+    let mut lent = record;
+    let mut calls = 4u8;
+    while calls > 0 {
+        let before = lent;
+        let turn = current.carry_on(record[5], &mut lent[80..message_end]);
+        let reply = turn.reply;
+        if !job::is_message(reply) && !is_same(before, lent) {
+            return false;
+        }
+        current = turn.job;
+        calls -= 1;
+    }
+    true
+}
+
+fn raw_job_case(record: [u8; 160]) {
+    print_answer(b'y', Outcome::Done);
+    if keeps_slice(raw_job(record), record) {
+        io::write_all(STDOUT_FILENO, b"kept\n");
+    } else {
+        io::write_all(STDOUT_FILENO, b"changed\n");
+    }
+}
+
+fn is_of_job(op: u8) -> bool {
+    match op {
+        b'j' | b'J' | b'c' | b'y' => true,
+        _ => false,
+    }
+}
+
+// Runs a case of a job at the current session and job and answers the job after it.
+fn run_job_case(session: Session, job: Job, record: [u8; 160]) -> Job {
+    match record[0] {
+        b'j' | b'J' => opening_case(session, record),
+        b'c' => call_case(job, record),
+        _ => {
+            raw_job_case(record);
+            job
+        }
+    }
+}
+
 // The loop counts its turns down from a number that no input reaches, since a proved loop has to end.
 fn main() {
     let refused = session::open(0, 0);
-    let mut current = refused.session;
+    let refused_job = job::open(0, 0, &[]);
+    let mut session = refused.session;
+    let mut job = refused_job.job;
     let mut turns = u64::MAX;
     while turns > 0 {
         let mut record = [0u8; 160];
@@ -198,7 +370,11 @@ fn main() {
         if n < 160 {
             return;
         }
-        current = run_case(current, record);
+        if is_of_job(record[0]) {
+            job = run_job_case(session, job, record);
+        } else {
+            session = run_case(session, record);
+        }
         turns -= 1;
     }
 }

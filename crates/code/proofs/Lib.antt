@@ -1,3 +1,4 @@
+pub mod AllColumns
 pub mod Passing
 pub mod Weights
 pub mod GridEntries

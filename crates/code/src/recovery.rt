@@ -114,7 +114,7 @@ fn bring_place(
 }
 
 // Brings in what stands at place p: 255 brings nothing.
-fn step(
+pub fn step(
     q: u8,
     columns: &[u8],
     m: usize,

@@ -1,7 +1,6 @@
 pub mod Counts
 pub mod Dimensions
 pub mod Symbols
-pub mod AllColumns
 pub mod ProductGrids
 pub mod Rotations
 pub mod ProductBlocks

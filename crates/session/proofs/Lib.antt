@@ -6,3 +6,4 @@ pub mod ModelReadings
 pub mod Askings
 pub mod Demand
 pub mod Orders
+pub mod Jobs

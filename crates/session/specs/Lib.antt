@@ -1,6 +1,7 @@
 pub mod Opened
 pub mod Arrived
 pub mod Asked
+pub mod JobOpened
 pub mod ReferenceModel
 pub mod Claim
 pub mod Reordered

@@ -6,10 +6,14 @@ ghost use mathlib.Core.Path.{_≡_};
 ghost use Rattle.session.specs.Opened.{emptySession, opened};
 ghost use Rattle.session.specs.Arrived.{conflictAsMissing, merged, arrivalChecks, arrived};
 ghost use Rattle.session.specs.Asked.{asked};
+ghost use Rattle.session.specs.JobOpened.{jobOpened};
 ghost use Rattle.session.specs.inner.WordRead.{wordRead};
+ghost use Rattle.job.specs.Task.{taskOf};
+ghost use Rattle.job.specs.Sound.{Sound};
 use field::Curve;
 use field::Named;
 use field::Outcome;
+use job::Opening;
 
 // q, m and for each place the symbol of the highest round received there, and that round: 255 and 0 where none was, and 254 where
 // two symbols of that round differed, a conflict. Places from n on are never read, nor their rounds.
@@ -179,5 +183,16 @@ impl Session {
         let n = word.points;
         let places = word.places;
         code::recovery::recover(self.q, self.m, &places[..n], message)
+    }
+
+    // A job of recovery from the stored q, m and first n places, one in conflict being missing: what asking recovers from.
+    pub fn job(self) -> Opening
+        ensures { λ r. ⌜ jobOpened self ≡ record { task = taskOf (r .job); outcome = r .outcome } ⌝ }
+        ensures { λ r. ⌜ Sound (r .job) ⌝ }
+    {
+        let word = self.received_word();
+        let n = word.points;
+        let places = word.places;
+        job::open(self.q, self.m, &places[..n])
     }
 }

@@ -2,14 +2,16 @@
 //! one run on the same inputs at q = 4, m = 37. Checks first that both give
 //! the same answers.
 //!
-//! With `blocks` as argument it compares programs instead; with an operation's
-//! name and a number of calls it runs the library alone, for a profiler.
+//! With `blocks` as argument it compares programs instead, with `turns` recovery
+//! in turns with recovery in one go; with an operation's name and a number of
+//! calls it runs the library alone, for a profiler.
 
 mod baseline;
 mod blocks;
 mod blocks_baseline;
 mod profile;
 mod timing;
+mod turns;
 
 use std::hint::black_box;
 use std::io;
@@ -41,6 +43,7 @@ const BASELINE_MODE: &str = "blocks-baseline";
 const USAGE: &str = "arguments, one of these:
   none                times of the library's operations and of the baseline's
   blocks [PROGRAM]    speed of the program `blocks` and of the baseline's
+  turns               times of recovery in turns, by jobs, and of recovery in one go
   blocks-baseline     the baseline's `blocks`, from standard input to standard output
   OPERATION CALLS     the library alone, for a profiler;
                       the operation is encode, unencode, recover-COUNT, where COUNT symbols are missing,
@@ -62,6 +65,10 @@ fn run(arguments: &[&str]) -> Result<(), String> {
     match arguments {
         [] => {
             print_table();
+            Ok(())
+        }
+        ["turns"] => {
+            turns::print_table();
             Ok(())
         }
         ["blocks"] => blocks::run(blocks::PROGRAM),

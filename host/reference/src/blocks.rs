@@ -4,27 +4,37 @@ use crate::code;
 use crate::outcome::Outcome;
 
 pub(crate) const RECORD_LENGTH: usize = 64;
-const CURVE_NUMBER: u8 = 4;
-const ORDER: u8 = 37;
-const MESSAGE_LENGTH: usize = 32;
+pub(crate) const CURVE_NUMBER: u8 = 4;
+pub(crate) const ORDER: u8 = 37;
+pub(crate) const MESSAGE_LENGTH: usize = 32;
 
 /// One line for each record of 64 bytes, and one for a shorter last part.
 pub fn blocks(input: &[u8]) -> String {
-    let parts = input.chunks(RECORD_LENGTH).enumerate();
-    parts.map(|(number, part)| line(number, part)).collect()
+    lines_of_parts(input, |number, record| {
+        let (outcome, message) = recovered(record);
+        format!("{number} {}\n", result(outcome, &message))
+    })
 }
 
-fn line(number: usize, part: &[u8]) -> String {
-    if part.len() < RECORD_LENGTH {
-        return format!("{number} short {}\n", part.len());
-    }
-    let (outcome, message) = recovered(part);
+/// The lines of each record by its number, and one for a shorter last part.
+pub(crate) fn lines_of_parts(input: &[u8], lines: impl Fn(usize, &[u8]) -> String) -> String {
+    let parts = input.chunks(RECORD_LENGTH).enumerate();
+    parts
+        .map(|(number, part)| match part.len() {
+            RECORD_LENGTH => lines(number, part),
+            length => format!("{number} short {length}\n"),
+        })
+        .collect()
+}
+
+/// `ok` and the message, or `no` and the two numbers of a refusal.
+pub(crate) fn result(outcome: Outcome, message: &[u8]) -> String {
     if outcome != Outcome::ACCEPTED {
-        return format!("{number} no {} {}\n", outcome.number, outcome.second);
+        return format!("no {} {}", outcome.number, outcome.second);
     }
     // A symbol of this field is below 16, so it is one digit.
     let digits: String = message.iter().map(|symbol| format!("{symbol:x}")).collect();
-    format!("{number} ok {digits}\n")
+    format!("ok {digits}")
 }
 
 /// A record as a broken word: what recovery says, and the message.

@@ -8,13 +8,13 @@
 //! | 0 | the op |
 //! | 1 | q |
 //! | 2 | m |
-//! | 3 | the length of the input, 0 to 72 |
+//! | 3 | the length of the input, 0 to 72; of `y` the next place, any number |
 //! | 4 | the length of the output slice, 0 to 72 |
-//! | 5 | the first operand, the place of an arrival, or the length of the mended word's slice |
-//! | 6 | the second operand, the symbol of an arrival, or the length of the marks' slice |
-//! | 7 | the round of an arrival |
-//! | 8 to 79 | the input, then zeros |
-//! | 80 to 151 | the output slice before the call, of `m` the longest one, then zeros |
+//! | 5 | the first operand, the place of an arrival, the length of the mended word's slice, or the budget of a job's call |
+//! | 6 | the second operand, the symbol of an arrival, or the length of the marks' slice; of `y` its flags: 1 if a contradiction was met, 2 if the equations were complete |
+//! | 7 | the round of an arrival; of `y` the kind of work bytes |
+//! | 8 to 79 | the input, of `y` 64 bytes, then zeros |
+//! | 80 to 151 | the output slice before the call, of `m` the longest one, then zeros; of `y` any 72 bytes, which start with that slice |
 //! | 152 to 159 | zeros |
 //!
 //! The ops are these letters:
@@ -39,12 +39,33 @@
 //!   the mended word's and the marks'. A length over 72 is taken as 72, as those
 //!   of input and output are. The line ends with the count of changes in decimal
 //!   and the three slices after the call, each as with `e`.
+//! - `j`: opening of a job from q, m and the input as a broken word; what it
+//!   hands back becomes the current job. Before the first one it is that of a
+//!   refused opening.
+//! - `J`: opening of a job from the current session; what it hands back becomes
+//!   the current job. The lines of `j` and `J` end with the current job's q and m
+//!   in decimal and its 64 places, those from n on 255, two hexadecimal digits
+//!   each.
+//! - `c`: the current job is carried on with the budget and the output slice, and
+//!   what the call hands back becomes the current job. The two numbers are 5 and
+//!   0 for a refused call, 9 and 0 or 10 and r, which may be 0, while still
+//!   working, and those of the result for a finished job. The line ends with the
+//!   number of symbols brought in, in decimal, with `refused`, `working` or
+//!   `finished`, and with the slice after the call as with `e`.
+//! - `y`: a job that no opening gave is carried on four times with the budget and
+//!   the output slice. It has q, m, the input as its places, the next place,
+//!   its flags, the bytes at offset 80 on as the message found and as its word, and
+//!   work bytes: all 0 for kind 0, only the diagonal set from the bytes at offset
+//!   80 on for kind 1, and every byte set from those in turn for kind 2. Current session and job stay as they are. The
+//!   results of such calls are left open, but the slice is written only with a
+//!   message; the line ends with `kept` if that is so.
 //!
-//! A line starts with the op and the two numbers of the answer (0 and 0 for
-//! `s`), and its parts are parted by one space each.
+//! A line starts with the op and the two numbers of the answer (0 and 0 for `s`
+//! and `y`), and its parts are parted by one space each.
 
 use crate::arithmetic;
 use crate::code;
+use crate::job::{Job, Reply};
 use crate::mend;
 use crate::outcome::Outcome;
 use crate::session::{Session, PLACE_COUNT};
@@ -68,11 +89,47 @@ pub struct Case {
     pub round: u8,
     pub input: Vec<u8>,
     pub output: Vec<u8>,
-    /// The bytes after the output slice that a longer slice of `m` begins with.
+    /// The bytes after the output slice that a longer slice of `m` begins with,
+    /// or those that `y` has there.
     pub beyond: Vec<u8>,
+    /// Of `y` only, whose record has it where others have the input's length.
+    pub next_place: u8,
 }
 
 impl Case {
+    /// A case of `o`.
+    pub fn of_opening(q: u8, m: u8) -> Case {
+        Case {
+            op: b'o',
+            q,
+            m,
+            ..Case::default()
+        }
+    }
+
+    /// A case of `s`.
+    pub fn of_raw_session(session: &Session) -> Case {
+        Case {
+            op: b's',
+            q: session.q,
+            m: session.m,
+            input: session.places.to_vec(),
+            output: session.rounds.to_vec(),
+            ..Case::default()
+        }
+    }
+
+    /// A case of `a`.
+    pub fn of_arrival(place: u8, symbol: u8, round: u8) -> Case {
+        Case {
+            op: b'a',
+            a: place,
+            b: symbol,
+            round,
+            ..Case::default()
+        }
+    }
+
     /// A case of `m`. The slices for message, mended word and marks have these
     /// lengths, and their bytes before the call count up from 128, so that none
     /// of them is a symbol or a mark.
@@ -80,17 +137,26 @@ impl Case {
         let [message, mended, marks] = lengths.map(|length| length.min(SLICE_ROOM));
         let longest = message.max(mended).max(marks);
         let area: Vec<u8> = (128..).take(longest).collect();
-        let (output, beyond) = area.split_at(message);
-        Case {
+        let case = Case {
             op: b'm',
             q,
             m,
             a: mended as u8,
             b: marks as u8,
             input: word.to_vec(),
+            ..Case::default()
+        };
+        case.with_area(&area, message)
+    }
+
+    /// The output slice is the first `output_length` bytes of the area, or all
+    /// of it if it has fewer.
+    pub fn with_area(self, area: &[u8], output_length: usize) -> Case {
+        let (output, beyond) = area.split_at(output_length.min(area.len()));
+        Case {
             output: output.to_vec(),
             beyond: beyond.to_vec(),
-            ..Case::default()
+            ..self
         }
     }
 
@@ -99,8 +165,11 @@ impl Case {
         let output_length = self.output.len().min(SLICE_ROOM);
         let area = self.first_of_area(SLICE_ROOM);
         let mut record = [0; RECORD_LENGTH];
-        let (input_length, output_length) = (input.len() as u8, output_length as u8);
-        let head = [self.op, self.q, self.m, input_length, output_length];
+        let byte_3 = match self.op {
+            b'y' => self.next_place,
+            _ => input.len() as u8,
+        };
+        let head = [self.op, self.q, self.m, byte_3, output_length as u8];
         record[..5].copy_from_slice(&head);
         record[5..8].copy_from_slice(&[self.a, self.b, self.round]);
         record[INPUT_OFFSET..][..input.len()].copy_from_slice(input);
@@ -116,14 +185,17 @@ impl Case {
     }
 
     pub fn from_record(record: &[u8; RECORD_LENGTH]) -> Case {
-        let input_length = slice_length(record[3]);
+        let (input_length, next_place) = match record[0] {
+            b'y' => (PLACE_COUNT, record[3]),
+            _ => (slice_length(record[3]), 0),
+        };
         let output_length = slice_length(record[4]);
-        let longest = match record[0] {
+        let area_length = match record[0] {
             b'm' => slice_length(record[4].max(record[5]).max(record[6])),
+            b'y' => SLICE_ROOM,
             _ => output_length,
         };
-        let (output, beyond) = record[OUTPUT_OFFSET..][..longest].split_at(output_length);
-        Case {
+        let case = Case {
             op: record[0],
             q: record[1],
             m: record[2],
@@ -131,9 +203,10 @@ impl Case {
             b: record[6],
             round: record[7],
             input: record[INPUT_OFFSET..][..input_length].to_vec(),
-            output: output.to_vec(),
-            beyond: beyond.to_vec(),
-        }
+            next_place,
+            ..Case::default()
+        };
+        case.with_area(&record[OUTPUT_OFFSET..][..area_length], output_length)
     }
 }
 
@@ -141,15 +214,18 @@ fn slice_length(byte: u8) -> usize {
     usize::from(byte).min(SLICE_ROOM)
 }
 
-/// Runs cases one after another and keeps the current session between them.
+/// Runs cases one after another and keeps the current session and the current
+/// job between them.
 pub struct Runner {
     session: Session,
+    job: Job,
 }
 
 impl Default for Runner {
     fn default() -> Runner {
         Runner {
             session: Session::OF_REFUSED_OPENING,
+            job: Job::OF_REFUSED_OPENING,
         }
     }
 }
@@ -159,12 +235,19 @@ impl Runner {
         &self.session
     }
 
+    pub fn job(&self) -> &Job {
+        &self.job
+    }
+
     /// The line of a case, with its line feed.
     pub fn run(&mut self, case: &Case) -> String {
         let (outcome, rest) = match case.op {
             b'+' | b'*' | b'i' => field_answer(case),
             b'o' | b's' | b'a' => self.session_answer(case),
             b'm' => mend_answer(case),
+            b'j' | b'J' => self.job_opening_answer(case),
+            b'c' => self.job_call_answer(case),
+            b'y' => (Outcome::ACCEPTED, "kept".to_string()),
             _ => self.slice_answer(case),
         };
         let Outcome { number, second } = outcome;
@@ -193,6 +276,29 @@ impl Runner {
         let places = hexadecimal(&session.places);
         let rounds = hexadecimal(&session.rounds);
         (outcome, format!("{q} {m} {places} {rounds}"))
+    }
+
+    fn job_opening_answer(&mut self, case: &Case) -> (Outcome, String) {
+        let (job, outcome) = match case.op {
+            b'j' => Job::open(case.q, case.m, &case.input),
+            _ => self.session.job(),
+        };
+        self.job = job;
+        let places = hexadecimal(job.places());
+        (outcome, format!("{} {} {places}", job.q(), job.m()))
+    }
+
+    fn job_call_answer(&mut self, case: &Case) -> (Outcome, String) {
+        let mut message = case.output.clone();
+        let (job, brought, reply) = self.job.carry_on(case.a, &mut message);
+        self.job = job;
+        let kind = match reply {
+            Reply::Refused => "refused",
+            Reply::NoneFits | Reply::Leaves(_) => "working",
+            Reply::Finished(_) => "finished",
+        };
+        let message = hexadecimal(&message);
+        (reply.outcome(), format!("{brought} {kind} {message}"))
     }
 }
 
@@ -273,7 +379,7 @@ mod tests {
             round: 11,
             input: vec![6, 7],
             output: vec![8, 9, 10],
-            beyond: vec![],
+            ..Case::default()
         };
         let mut expected = [0; 160];
         expected[..10].copy_from_slice(&[101, 2, 3, 2, 3, 4, 5, 11, 6, 7]);
@@ -323,13 +429,42 @@ mod tests {
     }
 
     #[test]
+    fn the_layout_of_a_record_of_a_job_that_no_opening_gave() {
+        for next_place in [0, 7, 64, 72, 73, 255] {
+            let case = Case {
+                op: b'y',
+                q: 2,
+                m: 3,
+                a: 9,
+                b: 1,
+                round: 2,
+                input: vec![5; 64],
+                next_place,
+                ..Case::default()
+            };
+            let case = case.with_area(&[6; 72], 3);
+            let mut expected = [0; 160];
+            expected[..8].copy_from_slice(&[121, 2, 3, next_place, 3, 9, 1, 2]);
+            expected[8..72].fill(5);
+            expected[80..152].fill(6);
+            assert_eq!(case.to_record(), expected);
+            assert_eq!(Case::from_record(&expected), case);
+            // The slice is cut to 72, the input is always 64 bytes.
+            expected[4] = 255;
+            assert_eq!(Case::from_record(&expected), case.with_area(&[6; 72], 72));
+        }
+    }
+
+    #[test]
     fn any_record_is_read_and_run() {
-        let case = Case::from_record(&[255; 160]);
-        assert_eq!((case.input.len(), case.output.len()), (72, 72));
-        assert_eq!(lines(&[case]).len(), 1);
-        let case = Case::from_record(&[b'm'; 160]);
-        assert_eq!((case.input.len(), case.output.len()), (72, 72));
-        assert_eq!(lines(&[case]).len(), 1);
+        for op in [255, b'm', b'j', b'J', b'c'] {
+            let case = Case::from_record(&[op; 160]);
+            assert_eq!((case.input.len(), case.output.len()), (72, 72));
+            assert_eq!(lines(&[case]).len(), 1);
+        }
+        let case = Case::from_record(&[b'y'; 160]);
+        assert_eq!((case.input.len(), case.output.len()), (64, 72));
+        assert_eq!(lines(&[case]), ["y 0 0 kept\n"]);
     }
 
     #[test]
@@ -434,5 +569,93 @@ mod tests {
         let set = format!("s 0 0 3 9 {held}\n");
         let arrived = format!("a 1 0 3 9 {held}\n");
         assert_eq!(lines(&cases), [opened, set, arrived]);
+    }
+    fn job_call(budget: u8, output: &[u8]) -> Case {
+        session_case(b'c', budget, 0, output)
+    }
+
+    /// Value H of paper 01, and 2 at place 5 too, where its word has 1.
+    #[test]
+    fn lines_of_jobs() {
+        let rest = "ff".repeat(56);
+        let open = |word: [u8; 8]| Case {
+            op: b'j',
+            q: 2,
+            m: 3,
+            input: word.to_vec(),
+            ..Case::default()
+        };
+        let cases = [
+            open([0, 1, 255, 255, 0, 255, 255, 0]),
+            job_call(2, &[7, 8, 9]),
+            job_call(1, &[7, 8]),
+            job_call(1, &[7, 8, 9]),
+            job_call(9, &[7, 8, 9]),
+            job_call(9, &[]),
+            open([0, 1, 255, 255, 0, 2, 255, 0]),
+            job_call(4, &[7, 8, 9]),
+            job_call(4, &[7, 8, 9]),
+            open([0, 1, 255, 255, 0, 2, 254, 0]),
+            job_call(0, &[7]),
+        ];
+        let expected = [
+            format!("j 0 0 2 3 0001ffff00ffff00{rest}\n"),
+            "c 10 1 2 working 070809\n".to_string(),
+            "c 5 0 0 refused 0708\n".to_string(),
+            "c 10 0 1 working 070809\n".to_string(),
+            "c 0 0 1 finished 000101\n".to_string(),
+            "c 5 0 0 refused \n".to_string(),
+            format!("j 0 0 2 3 0001ffff0002ff00{rest}\n"),
+            "c 9 0 4 working 070809\n".to_string(),
+            "c 9 0 1 finished 070809\n".to_string(),
+            format!("j 4 6 2 0 ffffffffffffffff{rest}\n"),
+            "c 10 1 0 finished 07\n".to_string(),
+        ];
+        assert_eq!(lines(&cases), expected);
+    }
+
+    #[test]
+    fn lines_of_jobs_before_any_opening_and_of_sessions() {
+        let raw = |places: [u8; 64]| Case {
+            op: b's',
+            q: 2,
+            input: places.to_vec(),
+            output: vec![0; 64],
+            ..Case::default()
+        };
+        let mut places = [77; 64];
+        places[..8].copy_from_slice(&[255, 254, 3, 255, 3, 254, 254, 255]);
+        let mut bad_places = places;
+        bad_places[7] = 253;
+        let open = session_case(b'J', 0, 0, &[]);
+        let cases = [
+            job_call(5, &[9]),
+            raw(places),
+            open.clone(),
+            job_call(1, &[9]),
+            raw(bad_places),
+            // The job doesn't change with the session.
+            job_call(1, &[9]),
+            open,
+            job_call(1, &[9]),
+        ];
+        let lines = lines(&cases);
+        let of_jobs: Vec<&str> = lines
+            .iter()
+            .filter(|line| !line.starts_with('s'))
+            .map(String::as_str)
+            .collect();
+        let (missing, rest) = ("ff".repeat(64), "ff".repeat(56));
+        let opened = format!("J 0 0 2 0 ffff03ff03ffffff{rest}\n");
+        let refused = format!("J 4 7 2 0 {missing}\n");
+        let expected = [
+            "c 10 1 0 finished 09\n",
+            &opened,
+            "c 10 0 1 working 09\n",
+            "c 0 0 1 finished 03\n",
+            &refused,
+            "c 10 1 0 finished 09\n",
+        ];
+        assert_eq!(of_jobs, expected);
     }
 }

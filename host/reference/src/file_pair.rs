@@ -1,14 +1,12 @@
 //! Writing an input file and its expected output, as the case programs do.
 
-use crate::record_sample;
 use std::env;
 use std::fs;
 use std::process::ExitCode;
 
-/// Writes the records of `record_sample` and what `program` prints for them.
-pub fn write_records(usage: &str, program: fn(&[u8]) -> String) -> ExitCode {
-    let records = record_sample::records();
-    write_to_arguments(usage, &records, &program(&records))
+/// Writes the records and what `program` prints for them.
+pub fn write_records(usage: &str, records: &[u8], program: fn(&[u8]) -> String) -> ExitCode {
+    write_to_arguments(usage, records, &program(records))
 }
 
 /// Writes the two contents to the paths given by the two arguments.

@@ -3,9 +3,10 @@
 //! It is written from paper 01 and the requests of paper 02 alone, to be compared
 //! with the proved library. Every method here is the plainest one: field products
 //! by shifting bits, encoding by evaluating each term at each point, unencoding
-//! and recovery by Gauss elimination on one equation for each known symbol, and
-//! mending by trying every message, or on the larger curve by Gauss elimination
-//! and recovery.
+//! and recovery by Gauss elimination on one equation for each known symbol, a job
+//! by recovery from the symbols brought in so far, anew at each call, and mending
+//! by trying every message, or on the larger curve by Gauss elimination and
+//! recovery.
 
 #![forbid(unsafe_code)]
 
@@ -18,11 +19,14 @@ pub mod curve;
 pub mod field;
 pub mod file_pair;
 pub mod generator;
+pub mod job;
+pub mod job_sample;
 mod linear;
 pub mod mend;
 pub mod mend_sample;
 pub mod outcome;
 pub mod page;
+pub mod progress;
 pub mod record_sample;
 pub mod sample;
 pub mod session;

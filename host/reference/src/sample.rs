@@ -6,6 +6,25 @@ use crate::code::{self, MISSING};
 use crate::curve::Curve;
 use crate::generator::Generator;
 
+/// Numbers that name no curve.
+pub const BAD_CURVES: [u8; 6] = [0, 1, 3, 5, 8, 255];
+
+/// Curve numbers, each with an order of n or more.
+pub const BAD_ORDERS: [(u8, u8); 9] = [
+    (2, 8),
+    (2, 9),
+    (2, 63),
+    (2, 64),
+    (2, 255),
+    (4, 64),
+    (4, 65),
+    (4, 128),
+    (4, 255),
+];
+
+/// Few, so that the same round comes up again at a place.
+pub const ROUNDS: [u8; 4] = [0, 1, 2, 255];
+
 /// A curve and an order below its n, with the numbers that follow from them.
 #[derive(Clone, Copy, Debug)]
 pub struct Shape {
@@ -98,13 +117,24 @@ pub fn with_known_columns(
     broken
 }
 
+/// How many symbols aren't missing.
+pub fn known_count(word: &[u8]) -> usize {
+    word.iter().filter(|&&symbol| symbol != MISSING).count()
+}
+
 /// The word with another symbol at one place that holds a symbol, if any does.
 pub fn damaged(generator: &mut Generator, shape: Shape, word: &[u8]) -> Vec<u8> {
+    let choice = generator.below(known_count(word));
+    damaged_at(generator, shape, word, choice)
+}
+
+/// The word with another symbol in place of the known symbol with number
+/// `choice`, counted from 0 by ascending place, if there is one.
+pub fn damaged_at(generator: &mut Generator, shape: Shape, word: &[u8], choice: usize) -> Vec<u8> {
     let mut damaged = word.to_vec();
-    let mut known: Vec<&mut u8> = damaged.iter_mut().filter(|s| **s != MISSING).collect();
-    let choice = generator.below(known.len());
-    if let Some(symbol) = known.get_mut(choice) {
-        **symbol = another_symbol(generator, shape, **symbol);
+    let mut known = damaged.iter_mut().filter(|symbol| **symbol != MISSING);
+    if let Some(symbol) = known.nth(choice) {
+        *symbol = another_symbol(generator, shape, *symbol);
     }
     damaged
 }
@@ -194,10 +224,6 @@ mod tests {
     use super::*;
     use crate::outcome::Outcome;
 
-    fn known_count(word: &[u8]) -> usize {
-        word.iter().filter(|&&symbol| symbol != MISSING).count()
-    }
-
     #[test]
     fn broken_words_keep_the_known_symbols() {
         let mut generator = Generator::with_seed(41);
@@ -226,6 +252,21 @@ mod tests {
             assert_eq!(changed, known.min(1));
             assert_eq!(known_count(&other), known);
             assert!(other.iter().all(|&s| s < 16 || s == MISSING));
+        }
+    }
+
+    #[test]
+    fn damage_at_the_first_known_symbol_and_at_the_last() {
+        let mut generator = Generator::with_seed(45);
+        let shape = Shape::of(Curve::Q_IS_2, 3);
+        let broken = [255, 0, 255, 1, 2, 255, 3, 255];
+        let changed = |damaged: &[u8]| -> Vec<usize> {
+            (0..8).filter(|&p| damaged[p] != broken[p]).collect()
+        };
+        for (choice, places) in [(0, vec![1]), (2, vec![4]), (3, vec![6]), (4, vec![])] {
+            let damaged = damaged_at(&mut generator, shape, &broken, choice);
+            assert_eq!(changed(&damaged), places);
+            assert!(damaged.iter().all(|&s| s < 4 || s == MISSING));
         }
     }
 

@@ -1,9 +1,10 @@
 //! A receiving session: symbols arrive one by one and the message may be
-//! asked for at any time.
+//! asked for at any time, in one go or by a job.
 
 use crate::checks;
 use crate::code::{self, MISSING};
 use crate::curve::Curve;
+use crate::job::Job;
 use crate::outcome::Outcome;
 
 /// The places that a session holds, for either curve.
@@ -61,6 +62,14 @@ impl Session {
         }
     }
 
+    /// Opens a job from what asking takes, a conflict being missing.
+    pub fn job(&self) -> (Job, Outcome) {
+        match Curve::named(self.q) {
+            Some(curve) => Job::open(self.q, self.m, &self.received_word(curve)),
+            None => (Job::OF_REFUSED_OPENING, Outcome::UNKNOWN_CURVE),
+        }
+    }
+
     fn check_arrival(&self, place: u8, symbol: u8) -> Result<(), Outcome> {
         let curve = checks::curve_and_order(self.q, self.m)?;
         checks::symbols_or_missing(curve.field(), &self.received_word(curve))?;
@@ -101,6 +110,7 @@ impl Session {
 mod tests {
     use super::*;
     use crate::generator::Generator;
+    use crate::job::Reply;
     use crate::sample::{self, Shape};
 
     fn opened(q: u8, m: u8) -> Session {
@@ -345,6 +355,64 @@ mod tests {
         assert_eq!(ask(&session, 7), Outcome::NO_MESSAGE_FITS);
         session.places[6..8].copy_from_slice(&[255, 255]);
         assert_eq!(ask(&session, 7), Outcome::several_messages_fit(1));
+    }
+
+    fn refused_job(session: &Session) -> Outcome {
+        let (job, outcome) = session.job();
+        assert_eq!(job, Job::OF_REFUSED_OPENING);
+        assert_eq!(session.ask(&mut [0; 99]), outcome);
+        outcome
+    }
+
+    #[test]
+    fn jobs_are_refused_in_the_order_of_the_checks() {
+        let mut session = with_one_value(255, 8, 4, 255);
+        assert_eq!(refused_job(&session), Outcome::UNKNOWN_CURVE);
+        session.q = 2;
+        assert_eq!(refused_job(&session), Outcome::ORDER_TOO_HIGH);
+        session.m = 7;
+        session.places[..5].copy_from_slice(&[0, 255, 1, 254, 3]);
+        assert_eq!(refused_job(&session), Outcome::value_too_high(5));
+        session.places[5..8].copy_from_slice(&[254, 255, 253]);
+        assert_eq!(refused_job(&session), Outcome::value_too_high(7));
+        session.places[7] = 0;
+        assert_eq!(session.job().1, Outcome::ACCEPTED);
+    }
+
+    /// A conflict is missing, and the places from n on are missing in the job.
+    #[test]
+    fn a_job_of_a_session_is_that_of_its_received_word() {
+        let mut session = with_one_value(2, 3, 77, 5);
+        session.places[..8].copy_from_slice(&[0, 1, 254, 254, 0, 254, 255, 0]);
+        let received = [0, 1, 255, 255, 0, 255, 255, 0];
+        assert_eq!(session.job(), Job::open(2, 3, &received));
+        let mut message = [9; 3];
+        let (_, brought, reply) = session.job().0.carry_on(255, &mut message);
+        assert_eq!((brought, reply), (4, Reply::Finished(Outcome::ACCEPTED)));
+        assert_eq!(message, [0, 1, 1]);
+    }
+
+    #[test]
+    fn a_finished_job_says_what_asking_says() {
+        let mut generator = Generator::with_seed(35);
+        for shape in Shape::every().flat_map(|shape| [shape; 4]) {
+            let word = sample::codeword(&mut generator, shape);
+            let mut session = opened(shape.q(), shape.m);
+            for _ in 0..generator.below(2 * shape.n) {
+                let place = generator.below(shape.n);
+                let another = sample::another_symbol(&mut generator, shape, word[place]);
+                let is_right = generator.below(20) > 0;
+                let symbol = if is_right { word[place] } else { another };
+                let round = generator.byte_from(0, 2);
+                session = after_rounds(session, &[(place as u8, symbol, round)]);
+            }
+            let mut asked = vec![99; shape.k];
+            let expected = Reply::Finished(session.ask(&mut asked));
+            let mut message = vec![99; shape.k];
+            let (job, _, _) = session.job().0.carry_on(9, &mut message);
+            let (_, _, reply) = job.carry_on(255, &mut message);
+            assert_eq!((reply, message), (expected, asked));
+        }
     }
 
     #[test]

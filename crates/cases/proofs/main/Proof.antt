@@ -2,17 +2,24 @@
 -- Assumes nothing.
 use mathlib.Core.Path.{refl}
 use native.Mathlib.Omega.{arith}
+use borrow.Author.Needs.{needs}
 use Rattle.cases.proofs.main.Statement.{statement}
 use Rattle.cases.proofs.main.Tie as tie
 
 abbrev Inv-loop : tie.InvT-loop
-Inv-loop current₀ turns₀ current turns = Unit {0}
+Inv-loop session₀ job₀ turns₀ session job turns = Unit {0}
 
 abbrev μ-loop : tie.MeasureT-loop
-μ-loop current₀ turns₀ current turns = turns
+μ-loop session₀ job₀ turns₀ session job turns = turns
 
 open-requires : tie.Need-open-requires Inv-loop μ-loop
 open-requires c κs = tt
+
+slice-aggregate-open : tie.Need-slice-aggregate-open Inv-loop μ-loop
+slice-aggregate-open c = refl
+
+open-requires-2 : tie.Need-open-requires-2 Inv-loop μ-loop
+open-requires-2 c κs = tt
 
 loop-holds : tie.Need-loop-holds Inv-loop μ-loop
 loop-holds c = tt
@@ -25,6 +32,15 @@ read-full-requires c κs = tt
 
 returns : tie.Need-returns Inv-loop μ-loop
 returns c = tt
+
+array-read-is-of-job : tie.Need-array-read-is-of-job Inv-loop μ-loop
+array-read-is-of-job c = search needs
+
+is-of-job-requires : tie.Need-is-of-job-requires Inv-loop μ-loop
+is-of-job-requires c κs = tt
+
+run-job-case-requires : tie.Need-run-job-case-requires Inv-loop μ-loop
+run-job-case-requires c κs = tt
 
 run-case-requires : tie.Need-run-case-requires Inv-loop μ-loop
 run-case-requires c κs = tt
@@ -48,10 +64,15 @@ main-spec =
     Inv-loop
     μ-loop
     open-requires
+    slice-aggregate-open
+    open-requires-2
     loop-holds
     slice-aggregate-read-full
     read-full-requires
     returns
+    array-read-is-of-job
+    is-of-job-requires
+    run-job-case-requires
     run-case-requires
     sub-turns
     loop-less

@@ -2,16 +2,17 @@
 
 use reference::blocks::blocks;
 use reference::file_pair;
+use reference::record_sample::records;
 use std::process::ExitCode;
 
 fn main() -> ExitCode {
-    file_pair::write_records("blocks_cases INPUT_FILE EXPECTED_FILE", blocks)
+    let usage = "blocks_cases INPUT_FILE EXPECTED_FILE";
+    file_pair::write_records(usage, &records(), blocks)
 }
 
 #[cfg(test)]
 mod tests {
     use super::*;
-    use reference::record_sample::records;
     use std::collections::BTreeSet;
 
     #[test]

@@ -6,27 +6,14 @@ use reference::code::MISSING;
 use reference::curve::Curve;
 use reference::file_pair;
 use reference::generator::Generator;
+use reference::job_sample::job_cases;
 use reference::mend_sample::mend_cases;
-use reference::sample::{self, Shape};
-use reference::session::{CONFLICT, PLACE_COUNT};
+use reference::sample::{self, Shape, BAD_CURVES, BAD_ORDERS, ROUNDS};
+use reference::session::{Session, CONFLICT, PLACE_COUNT};
 use reference::worked_session::worked_sessions;
 use std::process::ExitCode;
 
 const SEED: u64 = 1;
-/// Few, so that the same round comes up again at a place.
-const ROUNDS: [u8; 4] = [0, 1, 2, 255];
-const BAD_CURVES: [u8; 6] = [0, 1, 3, 5, 8, 255];
-const BAD_ORDERS: [(u8, u8); 9] = [
-    (2, 8),
-    (2, 9),
-    (2, 63),
-    (2, 64),
-    (2, 255),
-    (4, 64),
-    (4, 65),
-    (4, 128),
-    (4, 255),
-];
 
 fn main() -> ExitCode {
     let cases = all_cases();
@@ -55,6 +42,7 @@ fn all_cases() -> Vec<Case> {
     builder.raw_sessions();
     builder.worked_sessions();
     builder.cases.extend(mend_cases());
+    builder.cases.extend(job_cases());
     builder.cases
 }
 
@@ -268,12 +256,7 @@ fn slice_lengths(op: u8, shape: Shape) -> (usize, usize) {
 /// Cases of sessions.
 impl Builder {
     fn open(&mut self, q: u8, m: u8) {
-        self.cases.push(Case {
-            op: b'o',
-            q,
-            m,
-            ..Case::default()
-        });
+        self.cases.push(Case::of_opening(q, m));
     }
 
     fn round(&mut self) -> u8 {
@@ -282,25 +265,18 @@ impl Builder {
 
     /// A session with these places and arbitrary rounds, also at missing ones.
     fn set(&mut self, q: u8, m: u8, places: &[u8]) {
-        let rounds = (0..PLACE_COUNT).map(|_| self.round()).collect();
-        self.cases.push(Case {
-            op: b's',
+        let session = Session {
             q,
             m,
-            input: places.to_vec(),
-            output: rounds,
-            ..Case::default()
-        });
+            places: places.try_into().expect("64 places"),
+            rounds: [(); PLACE_COUNT].map(|()| self.round()),
+        };
+        self.cases.push(Case::of_raw_session(&session));
     }
 
     fn arrive_in_round(&mut self, round: u8, place: usize, symbol: u8) {
-        self.cases.push(Case {
-            op: b'a',
-            a: place as u8,
-            b: symbol,
-            round,
-            ..Case::default()
-        });
+        let place = place as u8;
+        self.cases.push(Case::of_arrival(place, symbol, round));
     }
 
     /// An arrival of an arbitrary round.
@@ -623,9 +599,9 @@ mod tests {
     }
 
     #[test]
-    fn there_are_about_11000_cases_and_each_fits_its_record() {
+    fn there_are_about_20000_cases_and_each_fits_its_record() {
         let cases = all_cases();
-        assert!((10500..=11500).contains(&cases.len()), "{}", cases.len());
+        assert!((19500..=20500).contains(&cases.len()), "{}", cases.len());
         for case in &cases {
             let record: [u8; RECORD_LENGTH] = case.to_record();
             assert_eq!(&Case::from_record(&record), case);
@@ -688,6 +664,10 @@ mod tests {
             ("a", vec![0, 1, 2, 4, 6, 7]),
             ("k", vec![0, 1, 2, 4, 5, 9, 10]),
             ("m", vec![0, 1, 2, 3, 4, 5, 11, 12]),
+            ("j", vec![0, 1, 2, 3, 4]),
+            ("J", vec![0, 1, 2, 4]),
+            ("c", vec![0, 5, 9, 10]),
+            ("y", vec![0]),
         ];
         possible
             .into_iter()

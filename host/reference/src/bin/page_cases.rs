@@ -2,16 +2,17 @@
 
 use reference::file_pair;
 use reference::page::page;
+use reference::record_sample::records;
 use std::process::ExitCode;
 
 fn main() -> ExitCode {
-    file_pair::write_records("page_cases INPUT_FILE EXPECTED_FILE", page)
+    let usage = "page_cases INPUT_FILE EXPECTED_FILE";
+    file_pair::write_records(usage, &records(), page)
 }
 
 #[cfg(test)]
 mod tests {
     use super::*;
-    use reference::record_sample::records;
     use std::collections::BTreeSet;
 
     #[test]

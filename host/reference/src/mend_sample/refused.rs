@@ -4,9 +4,7 @@ use super::{right_lengths, Builder};
 use crate::case_record::SLICE_ROOM;
 use crate::checks::MISSING;
 use crate::curve::Curve;
-use crate::sample::Shape;
-
-const BAD_CURVES: [u8; 6] = [0, 1, 3, 5, 8, 255];
+use crate::sample::{Shape, BAD_CURVES};
 
 fn all_too_long(shape: Shape) -> [usize; 3] {
     right_lengths(shape).map(|length| length + 1)

@@ -15,7 +15,7 @@ use Rattle.poly.specs.inner.Interpolation.{VanishingTree}
 use Rattle.poly.proofs.Entries.{take-zeros}
 use Rattle.poly.proofs.Fronts.{lent-long, front-long, array-long, part-fits}
 use Rattle.field.proofs.Fields.{fieldOf}
-use Rattle.mend.proofs.AllColumns.{symbols-are, columns-are, columns-fit, columns-long}
+use Rattle.code.proofs.AllColumns.{symbols-are, columns-are, columns-fit, columns-long}
 use Rattle.mend.proofs.ProductGrids.{many-columns, rows-long, full-word, takes-copied}
 use Rattle.mend.proofs.product.interpolate.Statement.{statement}
 use Rattle.mend.proofs.product.interpolate.Tie as tie

@@ -8,7 +8,7 @@ use lib.ListN.{take}
 use Rattle.code.specs.Points.{columnsOf}
 use Rattle.code.specs.Word.{wordOf}
 use Rattle.code.specs.inner.Encodable.{Encodable}
-use Rattle.mend.proofs.AllColumns.{columns-are, columns-fit, columns-long}
+use Rattle.code.proofs.AllColumns.{columns-are, columns-fit, columns-long}
 use Rattle.mend.proofs.unchecked.encode.Statement.{statement}
 use Rattle.mend.proofs.unchecked.encode.Tie as tie
 

@@ -11,7 +11,7 @@ use Rattle.code.specs.Terms.{size}
 use Rattle.code.specs.Word.{wordOf}
 use Rattle.code.specs.inner.Recovering.{BrokenOver}
 use Rattle.field.proofs.Fields.{fieldOf}
-use Rattle.mend.proofs.AllColumns.{columns-are, columns-fit, columns-long}
+use Rattle.code.proofs.AllColumns.{columns-are, columns-fit, columns-long}
 use Rattle.mend.proofs.unchecked.recover.Statement.{statement}
 use Rattle.mend.proofs.unchecked.recover.Tie as tie
 

@@ -9,7 +9,7 @@ use Rattle.code.specs.Points.{columnsOf}
 use Rattle.code.specs.inner.Readable.{Readable, readOver}
 use Rattle.poly.specs.inner.Interpolation.{VanishingTree}
 use Rattle.field.proofs.Fields.{fieldOf}
-use Rattle.mend.proofs.AllColumns.{columns-are, columns-fit, columns-long}
+use Rattle.code.proofs.AllColumns.{columns-are, columns-fit, columns-long}
 use Rattle.mend.proofs.unchecked.unencode.Statement.{statement}
 use Rattle.mend.proofs.unchecked.unencode.Tie as tie
 

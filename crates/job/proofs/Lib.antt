@@ -1,0 +1,14 @@
+pub mod Symbols
+pub mod Openings
+pub mod Freshness
+pub mod Counts
+pub mod Calls
+pub mod Formed
+pub mod Usability
+pub mod Advancing
+pub mod Standings
+pub mod SeenWords
+pub mod Tellings
+pub mod Results
+pub mod Carrying
+pub mod Turning

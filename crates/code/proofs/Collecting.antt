@@ -1,14 +1,13 @@
 -- Symbols that are brought in one after the other: what each step leaves, and what is left at the end.
 -- Assumes nothing.
-use mathlib.Core.Bool.{Bool, true, false}
+use mathlib.Core.Bool.{true}
 use mathlib.Core.List.{List, _++_}
-use mathlib.Core.Logic.{_↔_, _⊎_, inl, inr}
-use mathlib.Core.Path.{_≡_, refl, sym, ap, _∙_, subst}
-use Prim.Native.Nat.{ℕ, _+_, _*_, _≤_, _<_}
+use mathlib.Core.Logic.{_↔_}
+use mathlib.Core.Path.{_≡_, refl, sym, ap, _∙_}
+use Prim.Native.Nat.{ℕ, _+_, _≤_, _<_}
 use native.Mathlib.Decide.{ℕ-discrete}
 use native.Mathlib.Omega.{arith}
 use borrow.Author.Tests.{eq-eqb, ne-eqb}
-use lib.Dec.{T}
 use lib.ListN.{length, getD, List·getD-append}
 use lib.Seq.{ext-getD}
 use Rattle.field.proofs.Fields.{fieldOf}
@@ -19,15 +18,12 @@ use Rattle.poly.specs.declared.system.Effect.the-variants.{Pivot, Redundant, Co
 use Rattle.poly.specs.inner.Ranges.{Below, writes}
 use Rattle.poly.specs.inner.Rows.{stored}
 use Rattle.poly.proofs.Writes.{length-writes, writes-in}
-use Rattle.poly.proofs.Solutions.{solves-only}
 use Rattle.poly.proofs.Messages.{vector-below}
 use Rattle.poly.proofs.Linear.{dot-cong}
 use Rattle.poly.proofs.WellFormed.{blank-rank, blank-satisfied}
 use Rattle.code.specs.Terms.{size}
-use Rattle.code.specs.Word.{wordOf}
-use Rattle.code.specs.Fitting.{fits}
 use Rattle.code.specs.inner.Rows.{rowOf, equationOf}
-use Rattle.code.specs.inner.Recovering.{FitsBelow, FitsAt, Collected, Taken, Advanced, Gathered, Ended, Finished}
+use Rattle.code.specs.inner.Recovering.{FitsBelow, FitsAt, Collected, Taken, Advanced}
 
 module _ (q : ℕ) (columns : List ℕ) (m : ℕ) where
   -- ---- one symbol
@@ -100,18 +96,6 @@ module _ (q : ℕ) (columns : List ℕ) (m : ℕ) where
           );
         }
 
-    pub ended-clash : (work work′ : List ℕ) (n r r′ r″ : ℕ) → n < length word → Collected q columns m word work n r
-        → Advanced q columns m n (getD word n 0) r work work′ true r′ → Ended q columns m word work′ true r″
-    ended-clash work work′ n r r′ r″ l h a v f = a v (h .same v .0 (fits-fewer n (length word) v (omega arith) f)) (f .at n l)
-
-    pub ended-full : (work : List ℕ) (n r : ℕ) → n ≤ length word → Collected q columns m word work n r → r ≡ size q m
-        → Ended q columns m word work false r
-    ended-full work n r l h e = record { place = n; within = l; collected = h; whole = λ d. absurd (d e) }
-
-    pub ended-all : (work : List ℕ) (n r : ℕ) → n ≤ length word → length word ≤ n → Collected q columns m word work n r
-        → Ended q columns m word work false r
-    ended-all work n r l k h = record { place = n; within = l; collected = h; whole = λ d. omega arith }
-
 -- ---- a complete system
 
 pub solution-below : (q m : ℕ) (work message : List ℕ) → Solves (fieldOf q) (size q m) (flat 64 (size q m) work) message → length message ≡ size q m
@@ -127,21 +111,3 @@ copied k solution rest message ls lm =
     (λ j l.
     let b : j < k = omega (arith, length-writes message (entry (solution ++ rest)) k) in
     writes-in message (entry (solution ++ rest)) k j b (omega arith) ∙ List·getD-append solution rest 0 j (omega arith))
-
-pub finished-true : (q : ℕ) (columns : List ℕ) (m : ℕ) (word work message message′ solution : List ℕ) (b : Bool)
-    → Solves (fieldOf q) (size q m) (flat 64 (size q m) work) solution → length solution ≡ size q m → b ≡ fits (wordOf q columns m) word solution
-    → b ≡ true → message′ ≡ solution → Finished q columns m word work message message′ b
-finished-true q columns m word work message message′ solution b s long is-b t e =
-    subst (λ (x : Bool). Finished q columns m word work message message′ x) (sym t)
-    (rw e (s, long, subst T (sym t ∙ is-b) tt))
-
-pub finished-false : (q : ℕ) (columns : List ℕ) (m : ℕ) (word work message solution : List ℕ) (b : Bool)
-    → Solves (fieldOf q) (size q m) (flat 64 (size q m) work) solution → length solution ≡ size q m → b ≡ fits (wordOf q columns m) word solution
-    → b ≡ false → Finished q columns m word work message message b
-finished-false q columns m word work message solution b s long is-b f =
-    subst (λ (x : Bool). Finished q columns m word work message message x) (sym f) (
-      refl,
-      λ v vector h t.
-          let e = solves-only (fieldOf q) (flat 64 (size q m) work) (size q m) solution long s v vector h in
-          subst T (ap (fits (wordOf q columns m) word) e ∙ sym is-b ∙ f) t,
-    )

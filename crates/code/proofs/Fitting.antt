@@ -1,19 +1,17 @@
 -- The test `fits`, as a statement.
 -- Assumes nothing.
 use mathlib.Core.Path.{_≡_}
-use mathlib.Core.Bool.{Bool, true, false, _||_}
+use mathlib.Core.Bool.{Bool, _||_}
 use mathlib.Core.List.{List}
-use mathlib.Core.Logic.{_⊎_, inl, inr}
-use Prim.Native.Nat.{ℕ, _≤_, _<_}
-use native.Mathlib.Omega.{arith}
+use mathlib.Core.Logic.{inl, inr}
+use Prim.Native.Nat.{ℕ, _<_}
 use native.Mathlib.Decide.{ℕ-discrete}
 use borrow.Author.Tests.{eq-eqb}
 use lib.Dec.{T, eqb, eqb→eq}
 use lib.ListN.{length, getD}
-use Rattle.field.specs.Tests.{every}
 use Rattle.field.proofs.Search.{of-every, to-every}
-use Rattle.poly.proofs.Bools.{T-true, true-or-false, of-or, or-left, or-right}
-use Rattle.code.specs.Fitting.{agrees, fits}
+use Rattle.poly.proofs.Bools.{of-or, or-left, or-right}
+use Rattle.code.specs.Fitting.{fits}
 
 pub record Fits (word : List ℕ → List ℕ) (broken v : List ℕ) : Type 0 where
   pub at : (p : ℕ) → p < length broken → (getD broken p 0 ≡ 255 → ⊥) → getD (word v) p 0 ≡ getD broken p 0
@@ -41,35 +39,3 @@ module _ (word : List ℕ → List ℕ) (broken v : List ℕ) where
         | no n ↦ or-right (eqb (getD broken p 0) 255) (eqb (getD (word v) p 0) (getD broken p 0))
             (rw (eq-eqb (getD (word v) p 0) (getD broken p 0) (h .at p l n)) tt)
       ])
-
--- ---- the search for a place where two words differ
-
-module _ (broken whole : List ℕ) where
-  abbrev place-agrees : ℕ → Bool
-  place-agrees p = eqb (getD broken p 0) 255 || eqb (getD whole p 0) (getD broken p 0)
-
-  -- the places below n agree
-  abbrev pub AgreesBelow : ℕ → Type 0
-  AgreesBelow n = (p : ℕ) → p < n → (getD broken p 0 ≡ 255 → ⊥) → getD whole p 0 ≡ getD broken p 0
-
-  pub agrees-all : (n : ℕ) → length broken ≤ n → AgreesBelow n → agrees broken whole ≡ true
-  unfolding agrees
-  agrees-all n l h =
-      T-true (every (length broken) place-agrees)
-      (to-every (length broken) place-agrees (λ p k. elim (ℕ-discrete (getD broken p 0) 255) [
-        | yes e ↦ or-left (eqb (getD broken p 0) 255) (eqb (getD whole p 0) (getD broken p 0)) (rw (eq-eqb (getD broken p 0) 255 e) tt)
-        | no d ↦ or-right (eqb (getD broken p 0) 255) (eqb (getD whole p 0) (getD broken p 0))
-            (rw (eq-eqb (getD whole p 0) (getD broken p 0) (h p (omega arith) d)) tt)
-      ]))
-
-  pub agrees-not : (p : ℕ) → p < length broken → (getD broken p 0 ≡ 255 → ⊥) → (getD whole p 0 ≡ getD broken p 0 → ⊥) → agrees broken whole ≡ false
-  unfolding agrees
-  agrees-not p l n d = go (true-or-false (every (length broken) place-agrees))
-    where
-      go : (every (length broken) place-agrees ≡ true) ⊎ (every (length broken) place-agrees ≡ false) → every (length broken) place-agrees ≡ false
-      go (inr f) = f
-      go (inl t) =
-          elim (of-or (eqb (getD broken p 0) 255) (eqb (getD whole p 0) (getD broken p 0)) (of-every (length broken) place-agrees (rw t tt) p l)) [
-            | inl x ↦ absurd (n (eqb→eq (getD broken p 0) 255 x))
-            | inr x ↦ absurd (d (eqb→eq (getD whole p 0) (getD broken p 0) x))
-          ]

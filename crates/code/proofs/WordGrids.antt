@@ -2,7 +2,7 @@
 -- where its coefficients, laid out, are that grid; so the test of the weights says whether a message has the word, and the grid which.
 -- Assumes nothing.
 use mathlib.Core.Bool.{Bool, true, false, cond}
-use mathlib.Core.List.{List, [], _∷_, List·Memᴰ·head as head, List·Memᴰ·tail as tail, List·Memᴰ·not-nil as not-nil}
+use mathlib.Core.List.{List, [], _∷_, List·Memᴰ·head as head, List·Memᴰ·not-nil as not-nil}
 use mathlib.Core.Path.{_≡_, refl, sym, ap, _∙_}
 use Prim.Native.Nat.{ℕ, suc, _+_, _*_, _≤_, _<_}
 use native.Mathlib.Nat.{mul-le-mul-right}
@@ -33,7 +33,6 @@ use Rattle.code.specs.inner.Grid.{entryOf, scatter, gather, orderAtMost}
 use Rattle.code.specs.Fitting.{fitting}
 use Rattle.code.specs.Answers.{answered}
 use Rattle.code.specs.Unencoded.{theMessage}
-use Rattle.code.specs.Recovered.{read, reading, answerOf}
 use Rattle.code.specs.inner.Readable.{WordOver, InterpolatedInY, gridValue, GridOf, readOver, gridAnswer}
 use Rattle.code.proofs.GridEntries.{length-scatter, length-gather, gather-scatter, gather-number}
 use Rattle.code.proofs.GridLaw.{two-stages}
@@ -131,19 +130,6 @@ module _ (q : ℕ) (columns word : List ℕ) (w : WordOver q columns word) where
         (grid-only (scatter q (q * length columns) m u) (scatter q (q * length columns) m v) (message-grid u (hu .vector) (hu .fits))
         (message-grid v (hv .vector) (hv .fits)))
         ∙ gather-scatter q pos (q * length columns) m v (hv .vector .len) order
-
-    -- so recovery says of a whole word what unencoding says
-    answer-read : (slice : List ℕ) (l : List (List ℕ)) → ListOf (Fitting (q * q) (size q m) (wordOf q columns m) word) l
-        → answerOf (read (q * q) l) slice ≡ theMessage l slice
-    unfolding read answerOf
-    answer-read slice [] h = refl
-    answer-read slice (u ∷ []) h = refl
-    answer-read slice (u ∷ v ∷ l) h = absurd (h .distinct .0 (head (message-only u v (h .sound u (head refl)) (h .sound v (tail (head refl))))))
-
-    pub whole-answer : (slice : List ℕ) → answerOf (reading (q * q) (size q m) (wordOf q columns m) word) slice ≡ readOver q columns m word slice
-    unfolding reading
-    whole-answer slice =
-        answer-read slice (fitting (q * q) (size q m) (wordOf q columns m) word) (fitting-list (q * q) (size q m) (wordOf q columns m) word)
 
     -- a grid without heavy terms is that of a message, which has the word
     module _ (grid : List ℕ) (g : GridOf q columns word grid) where

@@ -31,16 +31,18 @@ use Rattle.code.proofs.Weights.{quotient, remainder}
 abbrev pub yAt : ℕ → ℕ → ℕ
 yAt q p = getD (ysOf q (p / q)) (p % q) 0
 
+-- a table of n numbers, each of which is below b
+pub small-table : (n b : ℕ) (list : List ℕ) → length list ≡ n → 0 < b → T (every n (λ p. ltb (getD list p 0) b)) → Below b list
+small-table n b list long pos small p = elim (decLt p n) [
+  | yes l ↦ ltb→lt (getD list p 0) b (of-every n (λ p. ltb (getD list p 0) b) small p l)
+  | no d ↦ rw (List·getD-eq-default list 0 {n = p} (omega arith)) pos
+]
+
 pub ys-table : (q : ℕ) → IsCurve q → (list : List ℕ) → length list ≡ 64 → T (agrees (yAt q) 0 (q * q * q) list)
     → T (every 64 (λ p. ltb (getD list p 0) (fieldOf q .size))) → Ys q list
-ys-table q curve list long test small = record { long = long; column = column; symbols = symbols }
+ys-table q curve list long test small =
+    record { long = long; column = column; symbols = small-table 64 (fieldOf q .size) list long (zero-lt (fieldOf q)) small }
   where
-    symbols : Below (fieldOf q .size) list
-    symbols p = elim (decLt p 64) [
-      | yes l ↦ ltb→lt (getD list p 0) (fieldOf q .size) (of-every 64 (λ p. ltb (getD list p 0) (fieldOf q .size)) small p l)
-      | no d ↦ rw (List·getD-eq-default list 0 {n = p} (omega arith)) (zero-lt (fieldOf q))
-    ]
-
     within : (x : ℕ) → x < q * q → q * x + q ≤ q * q * q
     within x l = omega (arith, sizes q curve .grid, mul-suc q x, mul-le-mul-left q l)
 

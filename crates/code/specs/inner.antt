@@ -4,4 +4,6 @@ pub mod Encodable
 pub mod Rows
 pub mod Recovering
 pub mod Readable
+pub mod Indicators
+pub mod Gaps
 pub mod Highest

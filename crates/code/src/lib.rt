@@ -1,7 +1,9 @@
 // The curve, its words, and their encoding, unencoding and recovery.
 pub mod check;
 pub mod encoding;
+pub mod equation;
 pub mod grid;
+pub mod indicator;
 pub mod point;
 pub mod recovery;
 pub mod term;

@@ -11,3 +11,4 @@ pub mod Curves
 pub mod Values
 pub mod Entries
 pub mod Formula
+pub mod Halves

@@ -8,3 +8,4 @@ pub mod Curve
 pub mod Outcomes
 pub mod Values
 pub mod Entries
+pub mod inner

@@ -1,8 +1,9 @@
 // Sum, product and inverse of symbols, at a curve's number q. What calls them shows that it has symbols.
 ghost use mathlib.Core.Path.{_≡_};
-ghost use Prim.Native.Nat.{_*_, _%_, _<_, _^_};
+ghost use Prim.Native.Nat.{_*_, _/_, _%_, _<_, _^_};
 ghost use Rattle.field.specs.Plus.{plus};
 ghost use Rattle.field.specs.Curve.{bitsOf};
+ghost use Rattle.field.specs.inner.Halves.{halfOf};
 ghost use Rattle.field.specs.Product.{timesZ, times, inverse};
 use crate::curve::Large;
 use crate::curve::Small;
@@ -33,14 +34,44 @@ pub fn plus(a: u8, b: u8) -> u8
 }
 
 // How many symbols the field has.
-fn size(q: u8) -> u8
+pub fn size(q: u8) -> u8
     ensures { λ r. ⌜ r ≡ 2 ^ bitsOf q ⌝ }
 {
     if q == 2 { Small::Q } else { Large::Q }
 }
 
+// How many numbers half of a symbol's bits have.
+pub fn half(q: u8) -> usize
+    ensures { λ r. ⌜ r ≡ halfOf q ⌝ }
+{
+    if q == 2 { 2 } else { 4 }
+}
+
+// A symbol's number by its halves: low + half * high.
+pub struct Halves {
+    pub low: usize,
+    pub high: usize,
+}
+
+pub fn split(q: u8, a: u8) -> Halves
+    ensures { λ r. ⌜ (r .low ≡ a % halfOf q) × (r .high ≡ a / halfOf q) ⌝ }
+{
+    let number = a as usize;
+    if q == 2 {
+        Halves {
+            low: number % 2,
+            high: number / 2,
+        }
+    } else {
+        Halves {
+            low: number % 4,
+            high: number / 4,
+        }
+    }
+}
+
 // z times a: a shift, and z + 1 for the bit that comes out.
-fn times_z(q: u8, a: u8) -> u8
+pub fn times_z(q: u8, a: u8) -> u8
     requires { ⌜ a < 2 ^ bitsOf q ⌝ }
     ensures { λ r. ⌜ r ≡ timesZ (bitsOf q) a ⌝ }
 {

@@ -95,12 +95,7 @@ module _ (q m : ℕ) (word : List ℕ) (b : BrokenOver q (columnsOf q) m word) (
         subst (λ (Q : ℕ). left Q ≡ several (size q m - r)) (sizes q curve .size)
         (missing-several q (columnsOf q) m seen seen-broken work r
         (record {
-          place = length seen;
-          within = omega arith;
-          collected = record {
-            formed = c .formed;
-            ranked = c .ranked;
-            same = λ v. (λ f. c .same v .0 (of-seen v f), λ s. to-seen v (c .same v .1 s));
-          };
-          whole = λ d. refl;
+          formed = c .formed;
+          ranked = c .ranked;
+          same = λ v. (λ f. c .same v .0 (of-seen v f), λ s. to-seen v (c .same v .1 s));
         }) l)

@@ -14,8 +14,8 @@ ghost use Rattle.code.specs.inner.Recovering.{BrokenOver};
 ghost use Rattle.job.specs.inner.Bringing.{Counted, Stopped, Ready, Collects, Compared, Usable, Brings};
 use crate::work;
 use code::encoding;
+use code::equation;
 use code::point;
-use code::recovery;
 use code::term;
 use field::Curve;
 use poly::system;
@@ -70,7 +70,7 @@ fn bring_equations(
                     brought,
                 };
             }
-            let r = recovery::step(q, columns, m, entries, p, s, rank, work);
+            let r = equation::step(q, columns, m, entries, p, s, rank, work);
             brought += 1;
             if r.clash {
                 return Progress {

@@ -1,6 +1,5 @@
 // Encoding, unencoding and recovery over all columns, of arguments that are past their checks.
 ghost use mathlib.Core.Path.{_≡_};
-ghost use Prim.Native.Nat.{_<_};
 ghost use lib.ListN.{length};
 ghost use Rattle.field.proofs.Fields.{fieldOf};
 ghost use Rattle.code.specs.Answers.{answered};
@@ -43,13 +42,13 @@ pub fn unencode(q: u8, m: u8, word: &[u8], message: &mut [u8]) -> Outcome
 
 // The message that alone fits a broken word.
 pub fn recover(q: u8, m: u8, word: &[u8], message: &mut [u8]) -> Outcome
-    requires { ⌜ BrokenOver q (columnsOf q) m (now word) × (length (now message) ≡ size q m) × (size q m < 64) ⌝ }
+    requires { ⌜ BrokenOver q (columnsOf q) m (now word) × (length (now message) ≡ size q m) ⌝ }
     ensures { λ r. ⌜ answerOf (reading (fieldOf q .size) (size q m) (wordOf q (columnsOf q) m) (now (word .entry))) (now (message .entry))
         ≡ answered r (now (message .exit)) ⌝ }
 {
+    let tree = point::tree(q);
     let columns = point::columns();
     let curve = Curve::at(q);
     let c = curve.symbols as usize;
-    let k = message.len();
-    recovery::recover_by_equations(q, &columns[..c], m as usize, k, word, message)
+    recovery::recover_over(q, &columns[..c], &tree, m as usize, word, message)
 }

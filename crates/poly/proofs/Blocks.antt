@@ -42,7 +42,7 @@ block-fits width n m l = omega (arith, mul-suc width n, mul-le-mul-left width l)
 
 -- a list of n blocks
 module _ (width : ℕ) (pos : 0 < width) (n : ℕ) where
-  block-of : (p : ℕ) → p < width * n → (p / width < n) × (p % width < width)
+  pub block-of : (p : ℕ) → p < width * n → (p / width < n) × (p % width < width)
   block-of p l = (div-lt-iff-lt-mul {x = p} {y = n} pos .1 (rw (mul-comm width n) at l), mod-lt p pos)
 
   pub blocks-at : (f : ℕ → ℕ → ℕ) (l : List ℕ) → Blocks width f l n → (p : ℕ) → p < width * n → getD l p 0 ≡ f (p / width) (p % width)

@@ -52,7 +52,7 @@ module _ (F : Field) where
       ∙ sym (ap₂ plus (power-suc F b n) (power-suc F y n))
 
   module _ (n h : ℕ) (even : n ≡ h + h) where
-    at-root : (b : ℕ) → value F n (falling n b) b ≡ 0
+    pub at-root : (b : ℕ) → value F n (falling n b) b ≡ 0
     unfolding value
     at-root b =
         sum-cong n (λ j. F .times (falling n b j) (power F b j)) (λ j. power F b (n - 1))
@@ -60,7 +60,7 @@ module _ (F : Field) where
         ∙ ap (λ (k : ℕ). sum k (λ j. power F b (n - 1))) even ∙ sum-even h (power F b (n - 1))
 
   -- b and y are roots of y^n + y + a, for one a
-  at-other : (n b y : ℕ) → b < F .size → y < F .size → (b ≡ y → ⊥) → plus (power F b n) b ≡ plus (power F y n) y → value F n (falling n b) y ≡ 1
+  pub at-other : (n b y : ℕ) → b < F .size → y < F .size → (b ≡ y → ⊥) → plus (power F b n) b ≡ plus (power F y n) y → value F n (falling n b) y ≡ 1
   at-other n b y bl yl d e =
       let ne : plus b y ≡ 0 → ⊥ = λ z. d (eq-of-plus-zero b y z) in
       let l = F .plus-lt b y bl yl in

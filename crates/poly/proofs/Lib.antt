@@ -41,8 +41,14 @@ pub mod Interleaving
 pub mod LagrangeSums
 pub mod Interpolants
 pub mod Elimination
+pub mod Counting
+pub mod Combinations
+pub mod Pivots
+pub mod PivotTables
+pub mod Eliminating
 pub mod Sets
 pub mod ClosedForm
+pub mod Indicators
 pub mod Convolutions
 pub mod Fillings
 pub mod Crossings

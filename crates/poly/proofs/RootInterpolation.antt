@@ -25,7 +25,7 @@ use Rattle.poly.proofs.Entries.{below-set}
 use Rattle.poly.proofs.LaneLaws.{lanes-at, lanes-below, lanes-cong}
 use Rattle.poly.proofs.ClosedForm.{summed-value}
 
-two-or-four : (u : ℕ) → (u ≡ 2) ⊎ (u ≡ 4) → (h : ℕ) × (u ≡ h + h) × (1 ≤ h) × (h ≤ 2)
+pub two-or-four : (u : ℕ) → (u ≡ 2) ⊎ (u ≡ 4) → (h : ℕ) × (u ≡ h + h) × (1 ≤ h) × (h ≤ 2)
 two-or-four u (inl e) = (1, e, omega arith, omega arith)
 two-or-four u (inr e) = (2, e, omega arith, omega arith)
 

@@ -7,7 +7,7 @@ use mathlib.Core.Logic.{inl}
 use Prim.Native.Nat.{ℕ, _+_, _*_, _≤_, _<_}
 use native.Mathlib.Omega.{arith}
 use lib.Dec.{T, eqb→eq, not-T}
-use lib.ListN.{length, replicate, length-replicate}
+use lib.ListN.{length}
 use Rattle.field.specs.Field.{Field}
 use Rattle.field.proofs.FieldLaws.{zero-lt}
 use Rattle.poly.specs.Lists.{below}
@@ -15,7 +15,6 @@ use Rattle.poly.specs.inner.Linear.{entry}
 use Rattle.poly.specs.inner.Systems.{flat, Satisfies, rank, WellFormed}
 use Rattle.poly.proofs.Lists.{count-none}
 use Rattle.poly.proofs.Parts.{row-before}
-use Rattle.poly.proofs.Entries.{getD-zeros}
 use Rattle.poly.proofs.Triangular.{Triangular}
 
 module _ (F : Field) (stride k : ℕ) (work : List ℕ) where
@@ -53,7 +52,3 @@ module _ (F : Field) (stride k : ℕ) (work : List ℕ) where
 
     pub blank-satisfied : (v : ℕ → ℕ) → Satisfies F k (flat stride k work) v
     blank-satisfied v = record { holds = λ p l t. absurd (no-row p t) }
-
-pub zeros-formed : (F : Field) (stride k : ℕ) → k < stride → WellFormed F stride k (replicate (stride * stride) 0)
-zeros-formed F stride k h =
-    blank-formed F stride k (replicate (stride * stride) 0) (getD-zeros (stride * stride)) h (length-replicate (stride * stride) 0)

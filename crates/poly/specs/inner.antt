@@ -4,5 +4,8 @@ pub mod Polynomials
 pub mod Linear
 pub mod Rows
 pub mod Systems
+pub mod Combinations
 pub mod Interpolation
 pub mod RootInterpolation
+pub mod Indicators
+pub mod Eliminating

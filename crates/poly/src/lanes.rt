@@ -93,6 +93,35 @@ pub fn multiply(q: u8, a: &[u8; 16], b: &[u8; 16]) -> [u8; 16]
     r
 }
 
+// z * a
+pub fn times_z(q: u8, a: &[u8; 16]) -> [u8; 16]
+    requires { ⌜ Below (fieldOf q .size) (now a) ⌝ }
+    ensures { λ r. ⌜ r ≡ lanes (λ t. fieldOf q .times 2 (entry (now (a .entry)) t)) ⌝ }
+{
+    let mut r = [0u8; 16];
+    let mut t = 0;
+    while t < 16 {
+        r[t] = field::symbol::times_z(q, a[t]);
+        t += 1;
+    }
+    r
+}
+
+// a * c
+pub fn scale(q: u8, c: u8, a: &[u8; 16]) -> [u8; 16]
+    requires { ⌜ (c < fieldOf q .size) × Below (fieldOf q .size) (now a) ⌝ }
+    ensures { λ r. ⌜ r ≡ lanes (λ t. fieldOf q .times (entry (now (a .entry)) t) c) ⌝ }
+{
+    let factor = [c; 16];
+    let mut r = [0u8; 16];
+    let mut t = 0;
+    while t < 16 {
+        r[t] = field::symbol::times(q, a[t], factor[t]);
+        t += 1;
+    }
+    r
+}
+
 // a + b * c
 pub fn add_scaled(q: u8, c: u8, a: &[u8; 16], b: &[u8; 16]) -> [u8; 16]
     requires { ⌜ (c < fieldOf q .size) × Below (fieldOf q .size) (now b) ⌝ }

@@ -5,3 +5,4 @@ pub mod polynomial;
 pub mod root_interpolation;
 pub mod rows;
 pub mod system;
+pub mod vectors;

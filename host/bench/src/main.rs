@@ -31,7 +31,7 @@ const N: usize = 64;
 const MISSING: u8 = 255;
 
 const INPUTS: usize = 64;
-const MISSING_COUNTS: [usize; 6] = [0, 4, 10, 20, 26, 32];
+const MISSING_COUNTS: [usize; 7] = [0, 1, 4, 10, 20, 26, 32];
 const WRONG_COUNTS: [usize; 5] = [0, 1, 5, 10, 14];
 const SEED: u64 = 37;
 

@@ -1,22 +1,18 @@
--- What the inner functions of recovery ask and give.
+-- A broken word over columns, and what the functions that bring its equations into a system ask and give.
 use mathlib.Core.Bool.{Bool, true, false}
 use mathlib.Core.List.{List}
 use mathlib.Core.Logic.{_⊎_, _↔_}
 use mathlib.Core.Path.{_≡_}
-use Prim.Native.Nat.{ℕ, _+_, _*_, _≤_, _<_}
-use lib.Dec.{T}
+use Prim.Native.Nat.{ℕ, _*_, _≤_, _<_}
 use lib.ListN.{length, getD}
 use Rattle.field.specs.Power.{power}
 use Rattle.field.proofs.Fields.{fieldOf}
-use Rattle.poly.specs.Messages.{Vector}
 use Rattle.poly.specs.inner.Linear.{entry, dot}
-use Rattle.poly.specs.inner.Systems.{flat, Satisfies, rank, WellFormed, Solves}
+use Rattle.poly.specs.inner.Systems.{flat, Satisfies, rank, WellFormed}
 use Rattle.code.specs.Terms.{weights, size}
-use Rattle.code.specs.Word.{monomial, wordOf}
-use Rattle.code.specs.Fitting.{fits}
+use Rattle.code.specs.Word.{monomial}
 use Rattle.code.specs.inner.Columns.{Columns}
 use Rattle.code.specs.inner.Rows.{rowOf}
-use Rattle.code.specs.declared.recovery.Progress.{Progress}
 
 -- x^i·y^j
 abbrev pub termAt : ℕ → ℕ → ℕ → ℕ → ℕ → ℕ
@@ -60,23 +56,3 @@ abbrev pub Advanced : ℕ → List ℕ → ℕ → ℕ → ℕ → ℕ → List 
 Advanced q columns m p s rank₀ work work′ true r =
     (v : ℕ → ℕ) → Satisfies (fieldOf q) (size q m) (flat 64 (size q m) work) v → FitsAt q columns m p s v → ⊥
 Advanced q columns m p s rank₀ work work′ false r = Taken q columns m p s rank₀ work work′ r
-
--- the symbols up to some place are collected: all, unless the rows are complete before
-pub record Gathered (q : ℕ) (columns : List ℕ) (m : ℕ) (word work : List ℕ) (r : ℕ) : Type 0 where
-  pub place : ℕ
-  pub within : place ≤ length word
-  pub collected : Collected q columns m word work place r
-  pub whole : (r ≡ size q m → ⊥) → place ≡ length word
-
-abbrev pub Ended : ℕ → List ℕ → ℕ → List ℕ → List ℕ → Bool → ℕ → Type 0
-Ended q columns m word work true r = (v : ℕ → ℕ) → FitsBelow q columns m word (length word) v → ⊥
-Ended q columns m word work false r = Gathered q columns m word work r
-
--- how a complete system ends: with its one solution, which fits, in the slice; or with the slice as it was, where that doesn't fit
-abbrev pub Finished : ℕ → List ℕ → ℕ → List ℕ → List ℕ → List ℕ → List ℕ → Bool → Type 0
-Finished q columns m word work message message′ true =
-    Solves (fieldOf q) (size q m) (flat 64 (size q m) work) message′ × (length message′ ≡ size q m) × T (fits (wordOf q columns m) word message′)
-Finished q columns m word work message message′ false =
-    (message′ ≡ message)
-    × ((v : List ℕ) → Vector (fieldOf q .size) (size q m) v → Satisfies (fieldOf q) (size q m) (flat 64 (size q m) work) (entry v)
-    → T (fits (wordOf q columns m) word v) → ⊥)

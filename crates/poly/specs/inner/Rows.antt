@@ -1,6 +1,7 @@
 -- Row operations on lists.
 use mathlib.Core.List.{List}
 use Prim.Native.Nat.{ℕ, _+_, _*_}
+use lib.ListN.{length}
 use Rattle.field.specs.Plus.{plus}
 use Rattle.field.specs.Field.{Field}
 use Rattle.poly.specs.inner.Ranges.{writes, part, put}
@@ -29,3 +30,7 @@ stored n src dst = writes dst n (entry src)
 -- work with the first n elements of row in row i, which stands from i * stride on
 unfoldable pub placed : ℕ → ℕ → ℕ → List ℕ → List ℕ → List ℕ
 placed stride n i row work = put work (i * stride) (i * stride + stride) (stored n row (part work (i * stride) (i * stride + stride)))
+
+-- w with c times its entry i times v added
+unfoldable pub cleared : Field → ℕ → ℕ → (ℕ → ℕ) → List ℕ → List ℕ
+cleared F i c v w = writes w (length w) (λ j. plus (entry w j) (F .times (F .times (entry w i) c) (v j)))

@@ -22,7 +22,7 @@ use Rattle.code.specs.Recovered.{reading, answerOf, recovered}
 use Rattle.code.proofs.Checks.{Accepted, call-done}
 use Rattle.code.proofs.Answers.{not-refused, entry-refused}
 use Rattle.code.proofs.YsTables.{columns-take}
-use Rattle.code.proofs.FullColumns.{length-upTo, broken-over, size-short}
+use Rattle.code.proofs.FullColumns.{length-upTo, broken-over}
 use Rattle.code.proofs.recovery.recover.Statement.{statement}
 use Rattle.code.proofs.recovery.recover.Tie as tie
 
@@ -86,9 +86,8 @@ recover-over-requires c κs =
       (
         subst (λ (l : List ℕ). BrokenOver (x .q) l (x .m) (now (x .word))) columns
             (broken-over (x .q) (x .m) (now (x .word)) _ _ (p .0) (p .1) (p .2)),
+        sym (ap length columns) ∙ length-upTo _,
         p .2 .fits,
-        p .2 .fits,
-        size-short (x .q) (p .0) (x .m) (p .1),
       ),
       subst (λ (l : List ℕ). VanishingTree (fieldOf (x .q)) l (c .before .before .before .before .before .before .tree .result)) columns
           (c .before .before .before .before .before .before .tree .ensures),
@@ -109,7 +108,7 @@ returns-2 c =
     ∙ subst (λ (Q : ℕ). answerOf (reading Q (size (x .q) (x .m)) (wordOf (x .q)
     (take (c .before .before .before .before .before .before .before .at .result .symbols)
     (c .before .before .before .before .before .before .before .before .columns .result)) (x .m)) (now (x .word))) (now (x .message))
-    ≡ answered (r .result) (r .last .1 .1 .1 .1 .1 .1 .0))
+    ≡ answered (r .result) (r .last .1 .1 .1 .1 .1 .0))
     (sizes (x .q) (passed (c .before .before .before .before .before .before .before .before .before .before) .0) .size) (r .ensures)
 
 pub recover-spec : {M : Type 1} → statement M

@@ -1,90 +1,204 @@
--- `code::recovery::recover_over` meets its contract: what recovery says of a whole word is what unencoding says.
+-- `code::recovery::recover_over` meets its contract: each way out has what elimination leaves of the grids of the gaps.
 -- Assumes nothing.
-use mathlib.Core.Bool.{false}
-use mathlib.Core.Path.{_≡_, refl, sym, ap, _∙_, subst}
-use Prim.Native.Nat.{ℕ, _*_}
+use mathlib.Core.Bool.{true, false}
+use mathlib.Core.Path.{_≡_, _∙_, sym, ap}
+use Prim.Native.Nat.{_-_, _*_, _≤_, _<_}
 use native.Mathlib.Omega.{arith}
 use borrow.Author.Needs.{needs}
 use denote.Ref.{now}
-use lib.ListN.{length}
-use Rattle.field.specs.Values.{badValue, firstBad}
-use Rattle.field.specs.declared.curve.Curve.{Curve}
-use Rattle.field.proofs.Curves.{sizes}
+use lib.ListN.{length, take}
+use Rattle.field.specs.declared.outcome.Outcome.the-variants.{Done}
+use Rattle.field.proofs.Fields.{fieldOf}
+use Rattle.poly.specs.inner.Ranges.{Below}
+use Rattle.poly.proofs.Entries.{getD-zeros}
+use Rattle.code.specs.Answers.{answered}
+use Rattle.code.specs.Recovered.{Reading, reading, nothing, message, several, answerOf}
 use Rattle.code.specs.Terms.{size}
 use Rattle.code.specs.Word.{wordOf}
-use Rattle.code.specs.Answers.{answered}
-use Rattle.code.specs.Recovered.{reading, answerOf}
-use Rattle.code.specs.inner.Readable.{Readable}
-use Rattle.field.proofs.Values.{all-good}
-use Rattle.code.proofs.FullColumns.{accepted-symbols}
-use Rattle.code.proofs.WordGrids.{whole-answer}
+use Rattle.code.specs.inner.Grid.{gather, orderAtMost}
+use Rattle.code.proofs.KnownGrids.{word-short}
+use Rattle.code.proofs.GapAnswers.{broken-0, blocks-fit, count-le, count-fits, lent-long, lent-symbols}
+use Rattle.code.proofs.GapAnswers.{nothing-left, several-left, message-left}
 use Rattle.code.proofs.recovery.recover_over.Statement.{statement}
 use Rattle.code.proofs.recovery.recover_over.Tie as tie
 
--- where the search for a value that is no symbol finds none
-whole : (c : tie.Then1) → let x = c .before .before .before .before .before .before .before .args in
-    Readable (x .q) (now (x .columns)) (x .m) (now (x .word)) (now (x .message))
-whole c =
-    let x = c .before .before .before .before .before .before .before .args in
-    let h = c .before .before .before .before .before .before .before .pre .0 in
-    let b = h .0 in
-    let none : c .before .first-bad .result ≡ firstBad (badValue false (x .q * x .q)) (now (x .word)) =
-    c .before .first-bad .ensures ∙ ap (λ (v : Curve). firstBad (badValue false (v .symbols)) (now (x .word))) (c .before .before .at .ensures) in
-    record {
-      whole = record {
-        over = b .over;
-        few = b .few;
-        long = b .long;
-        symbols = accepted-symbols (x .q) (b .over .curve) (length (now (x .word))) (now (x .word)) 0 0 (record {
-          long = refl;
-          good = all-good (badValue false (x .q * x .q)) (now (x .word)) (omega (arith, none, c .if1));
-          fits = refl;
-        });
-      };
-      order = b .order;
-      room = h .2;
-    }
+-- the gaps' vectors, and the part of them that is lent
+vectors-lent : (c : tie.After-write-indicators) → let w = c .write-indicators in
+    (w .result ≤ 64) × (64 * w .result ≤ length (w .last .1 .1 .1 .1 .0))
+    × (length (take (64 * w .result) (w .last .1 .1 .1 .1 .0)) ≡ 64 * w .result)
+    × Below (fieldOf (c .before .before .before .before .before .before .args .q) .size) (take (64 * w .result) (w .last .1 .1 .1 .1 .0))
+vectors-lent c =
+    let s = c .before .before .before .before .before .before in
+    let w = c .write-indicators in
+    let v = w .last .1 .1 .1 .1 .0 in
+    let long = w .kept .1 .1 .1 .1 .0 in (
+      count-le _ _ _ _ (s .pre .0 .0) (s .pre .0 .1) (w .result) (w .ensures .0) v long (w .ensures .1),
+      count-fits _ _ _ _ (s .pre .0 .0) (s .pre .0 .1) (w .result) (w .ensures .0) v long (w .ensures .1),
+      lent-long _ _ _ _ (s .pre .0 .0) (s .pre .0 .1) (w .result) (w .ensures .0) v long (w .ensures .1),
+      lent-symbols _ _ _ _ (s .pre .0 .0) (s .pre .0 .1) (w .result) (w .ensures .0) v long (w .ensures .1),
+    )
 
-at-requires : tie.Need-at-requires
-at-requires c κs = c .before .before .before .before .pre .0 .0 .over .curve
+-- what the symbols say, by what is left of the word's own grid
+read : tie.After-eliminate → Reading
+read c = let x = c .before .before .before .before .before .before .before .before .before .before .before .before .before .args in reading
+    (fieldOf (x .q) .size) (size (x .q) (x .m)) (wordOf (x .q) (now (x .columns)) (x .m)) (now (x .word))
 
-first-bad-requires : tie.Need-first-bad-requires
-first-bad-requires c κs = search needs
+says : (c : tie.After-eliminate) → let x = c .before .before .before .before .before .before .before .before .before .before .before
+    .before .before .args in
+    let count = c .before .before .before .before .before .before .before .write-indicators .result in
+    let rank = c .eliminate .result in
+    let left = c .eliminate .last .1 .1 .1 .1 .0 in
+    (orderAtMost (x .q) (x .m) (length left) left ≡ false → read c ≡ nothing)
+    × (orderAtMost (x .q) (x .m) (length left) left ≡ true → rank < count → read c ≡ several (count - rank))
+    × (orderAtMost (x .q) (x .m) (length left) left ≡ true → count ≤ rank → read c ≡ message (gather (x .q) (x .m) left))
+unfolding read
+says c =
+    let s = c .before .before .before .before .before .before .before .before .before .before .before .before .before in
+    let w = c .before .before .before .before .before .before .before .write-indicators in
+    let g = c .before .before .before .before .write-grid in
+    let e = c .eliminate in
+    let v = w .last .1 .1 .1 .1 .0 in
+    let long = w .kept .1 .1 .1 .1 .0 in
+    let after = e .last .1 .1 .1 .0 in
+    let left = e .last .1 .1 .1 .1 .0 in
+    let left-long = e .kept .1 .1 .1 .1 .0 ∙ g .kept .1 .1 .1 .1 .0 in (
+      nothing-left _ _ _ _ (s .pre .0 .0) (s .pre .0 .1) _ (w .ensures .0) v long (w .ensures .1) _ (g .ensures) _ after left left-long
+          (e .ensures .1),
+      several-left _ _ _ _ (s .pre .0 .0) (s .pre .0 .1) _ (w .ensures .0) v long (w .ensures .1) _ (g .ensures) _ after left left-long
+          (e .ensures .1),
+      message-left _ _ _ _ (s .pre .0 .0) (s .pre .0 .1) _ (w .ensures .0) v long (w .ensures .1) _ (g .ensures) _ after left left-long
+          (e .ensures .1),
+    )
 
-read-word-requires : tie.Need-read-word-requires
-read-word-requires c κs = (whole (c .before), c .before .before .before .before .before .before .before .before .pre .1)
+slice-aggregate-write-indicators : tie.Need-slice-aggregate-write-indicators
+slice-aggregate-write-indicators c = search needs
+
+write-indicators-requires : tie.Need-write-indicators-requires
+write-indicators-requires c κs =
+    let s = c .before .before .before .before .before in
+    let b = broken-0 _ _ _ _ (s .pre .0 .0) in
+    ((b, s .pre .0 .1, blocks-fit _ (b .over .curve)), (omega (arith, word-short _ _ _ b), getD-zeros 4096))
+
+slice-aggregate-write-grid : tie.Need-slice-aggregate-write-grid
+slice-aggregate-write-grid c = search needs
+
+write-grid-requires : tie.Need-write-grid-requires
+write-grid-requires c κs =
+    let s = c .before .before .before .before .before .before .before .before in
+    let b = broken-0 _ _ _ _ (s .pre .0 .0) in
+    ((b, s .pre .1), (word-short _ _ _ b, getD-zeros 64))
+
+mul-end : tie.Need-mul-end
+mul-end c = omega (arith, vectors-lent (c .before .before .before .before) .0)
+
+array-borrow-prefix-vectors : tie.Need-array-borrow-prefix-vectors
+array-borrow-prefix-vectors c = vectors-lent (c .before .before .before .before) .1
+
+slice-aggregate-eliminate : tie.Need-slice-aggregate-eliminate
+slice-aggregate-eliminate c = sym (vectors-lent (c .before .before .before .before .before) .2)
+
+slice-aggregate-eliminate-2 : tie.Need-slice-aggregate-eliminate-2
+slice-aggregate-eliminate-2 c = search needs
+
+eliminate-requires : tie.Need-eliminate-requires
+eliminate-requires c κs =
+    let lent = vectors-lent (c .before .before .before .before .before .before) in
+    let g = c .before .before .before .write-grid in (
+      (
+        c .before .before .before .before .before .before .before .before .before .before .before
+            .before .pre .0 .0 .over .curve,
+        lent .2,
+        lent .3,
+      ),
+      (g .kept .1 .1 .1 .1 .0, g .ensures .symbols),
+    )
+
+slice-aggregate-order-at-most : tie.Need-slice-aggregate-order-at-most
+slice-aggregate-order-at-most c = search needs
+
+order-at-most-requires : tie.Need-order-at-most-requires
+order-at-most-requires c κs = (
+  c .before .before .before .before .before .before .before .before .before .before .before .before .before .before .before
+      .before .pre .0 .0 .over .curve,
+  omega (
+    arith,
+    c .before .before .before .eliminate .kept .1 .1 .1 .1 .0,
+    c .before .before .before
+        .before .before .before .before .write-grid .kept .1 .1 .1 .1 .0,
+  ),
+)
+
+sub-t25 : tie.Need-sub-t25
+sub-t25 c = search needs
+
+cast-t26 : tie.Need-cast-t26
+cast-t26 c = omega (
+  arith,
+  vectors-lent (c .before .before .before .before .before .before .before .before .before .before .before .before
+      .before) .0,
+)
+
+returns : tie.Need-returns
+unfolding answerOf read
+returns c =
+    ap (λ (r : Reading). answerOf r (now (c .before .before .before .before .before .before .before .before .before .before .before .before
+    .before .before .before .before .before .before .before .args .message)))
+    (says (c .before .before .before .before .before .before) .1 (sym (c .before .before .order-at-most .ensures) ∙ c .before .if1 .taken)
+    (c .if2 .taken))
+
+slice-aggregate-gather : tie.Need-slice-aggregate-gather
+slice-aggregate-gather c = search needs
+
+gather-requires : tie.Need-gather-requires
+gather-requires c κs =
+    let s = c .before .before .before .before .before .before .before .before .before .before .before .before .before .before .before
+    .before .before .before .before .before .before in
+    let b = s .pre .0 .0 in
+    let long = c .before .before .before .before .before .before .before .before .eliminate .kept .1 .1 .1 .1 .0 ∙ c .before .before
+    .before .before .before .before .before .before .before .before .before .before .write-grid .kept .1 .1 .1 .1 .0 in
+    (b .over .curve, omega (arith, b .order, b .long, word-short _ _ _ (broken-0 _ _ _ _ b), long), s .pre .0 .2)
 
 same-length : tie.Need-same-length
 same-length c = search needs
 
-returns : tie.Need-returns
-returns c =
-    let x = c .before .before .before .before .before .before .before .before .before .before .before .args in
-    let r = c .before .before .read-word in
-    let w = whole (c .before .before .before .before) in
-    subst (λ (Q : ℕ). answerOf (reading Q (size (x .q) (x .m)) (wordOf (x .q) (now (x .columns)) (x .m)) (now (x .word))) (now (x .message))
-    ≡ answered (r .result) (r .last .1 .1 .1 .1 .1 .0))
-    (sym (sizes (x .q) (w .whole .over .curve) .size))
-    (whole-answer (x .q) (now (x .columns)) (now (x .word)) (w .whole) (x .m) (w .order) (now (x .message)) ∙ r .ensures)
-
-recover-by-equations-requires : tie.Need-recover-by-equations-requires
-recover-by-equations-requires c κs = search needs
-
-same-length-2 : tie.Need-same-length-2
-same-length-2 c = search needs
-
 returns-2 : tie.Need-returns-2
-returns-2 c = search needs
+unfolding answerOf read
+returns-2 c =
+    let order = c .before .before .before .before .before .before .before .order-at-most in
+    ap (λ (r : Reading). answerOf r (now (c .before .before .before .before .before .before .before .before .before .before .before .before
+    .before .before .before .before .before .before .before .before .before .before .before .before .args .message)))
+    (says (c .before .before .before .before .before .before .before .before .before .before .before) .2 (sym (order .ensures) ∙ c .before
+    .before .before .before .before .before .if1 .taken)
+    (omega (arith, c .before .before .before .before .before .if2 .left)))
+    ∙ ap (answered Done) (sym (c .before .before .gather .ensures))
+
+returns-3 : tie.Need-returns-3
+unfolding answerOf read
+returns-3 c =
+    ap (λ (r : Reading). answerOf r (now (c .before .before .before .before .before .before .before .before .before .before .before .before
+    .before .before .before .before .before .before .args .message)))
+    (says (c .before .before .before .before .before) .0 (sym (c .before .order-at-most .ensures) ∙ c .if1 .left))
 
 pub recover-over-spec : {M : Type 1} → statement M
 recover-over-spec =
     tie.close
     (tie.spec
-    at-requires
-    first-bad-requires
-    read-word-requires
-    same-length
+    slice-aggregate-write-indicators
+    write-indicators-requires
+    slice-aggregate-write-grid
+    write-grid-requires
+    mul-end
+    array-borrow-prefix-vectors
+    slice-aggregate-eliminate
+    slice-aggregate-eliminate-2
+    eliminate-requires
+    slice-aggregate-order-at-most
+    order-at-most-requires
+    sub-t25
+    cast-t26
     returns
-    recover-by-equations-requires
-    same-length-2
-    returns-2)
+    slice-aggregate-gather
+    gather-requires
+    same-length
+    returns-2
+    returns-3)

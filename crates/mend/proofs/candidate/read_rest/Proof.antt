@@ -18,7 +18,6 @@ use Rattle.code.specs.Recovered.{answerOf, reading}
 use Rattle.code.specs.Terms.{size}
 use Rattle.code.specs.Word.{wordOf}
 use Rattle.code.specs.inner.Recovering.{BrokenOver}
-use Rattle.code.proofs.FullColumns.{size-short}
 use Rattle.code.proofs.Recoveries.{readingOf}
 use Rattle.mend.specs.inner.Locating.{reach, Erased}
 use Rattle.poly.proofs.Fronts.{front-fits, front-again, again-long}
@@ -102,7 +101,6 @@ recover-requires c κs =
       subst (BrokenOver (x .q) (columnsOf (x .q)) (x .m)) (sym (front-again _ (e .erase .last .1 .0) _ (erased-long e)))
           (erased-broken (x .q) (x .m) (now (x .word)) (s .pre .0) (reach (x .q) (x .m)) (now (x .locator)) _ (erased e)),
       s .pre .3,
-      size-short (x .q) (s .pre .0 .curve) (x .m) (omega (arith, s .pre .0 .order)),
     )
 
 enum-told : tie.Need-enum-told

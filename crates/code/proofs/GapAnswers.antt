@@ -1,0 +1,115 @@
+-- What recovery says of a broken word, from what elimination leaves of the grids of its gaps.
+-- Assumes nothing.
+use mathlib.Core.Bool.{Bool, true, false}
+use mathlib.Core.List.{List}
+use mathlib.Core.Path.{_≡_, refl, sym, ap, _∙_, subst}
+use Prim.Native.Nat.{ℕ, _+_, _-_, _*_, _≤_, _<_}
+use native.Mathlib.Omega.{arith}
+use lib.Dec.{eqb}
+use lib.ListN.{length, take}
+use lib.Seq.{getD-take, length-take-le}
+use Rattle.field.specs.Curve.{IsCurve}
+use Rattle.field.proofs.Curves.{each-curve}
+use Rattle.field.proofs.Fields.{fieldOf}
+use Rattle.poly.specs.Sets.{ListOf}
+use Rattle.poly.specs.inner.Ranges.{Below}
+use Rattle.poly.specs.inner.Linear.{entry}
+use Rattle.poly.specs.inner.Combinations.{rowsFrom, ZeroOn, Padded, Eliminated}
+use Rattle.poly.proofs.Parts.{below-take}
+use Rattle.poly.proofs.Interleaving.{place-lt}
+use Rattle.code.specs.Recovered.{reading, nothing, message, several}
+use Rattle.code.specs.Terms.{size}
+use Rattle.code.specs.Word.{wordOf}
+use Rattle.code.specs.inner.Grid.{gather, orderAtMost}
+use Rattle.code.specs.inner.Recovering.{BrokenOver}
+use Rattle.code.specs.inner.Indicators.{blocksOf}
+use Rattle.code.specs.inner.Gaps.{Gap, gapsOf, heavy, GapGrids, IndicatorRows, KnownGrid}
+use Rattle.code.proofs.Stages.{columns-short}
+use Rattle.code.proofs.Passing.{place-bound}
+use Rattle.code.proofs.GapRows.{gaps-listed, rows-grids, rows-padded}
+use Rattle.code.proofs.GapReadings.{light, not-light, gaps-nothing, gaps-several, gaps-message}
+
+-- a broken word of an order is one of the order 0
+pub broken-0 : (q : ℕ) (columns : List ℕ) (m : ℕ) (word : List ℕ) → BrokenOver q columns m word → BrokenOver q columns 0 word
+broken-0 q columns m word h =
+    record { over = h .over; few = h .few; order = omega (arith, h .order); long = h .long; value = h .value }
+
+-- a row has room for the blocks of a grid
+pub blocks-fit : (q : ℕ) → IsCurve q → 16 * blocksOf q ≤ 64
+blocks-fit = each-curve (λ q. 16 * blocksOf q ≤ 64) (omega arith) (omega arith)
+
+module _ (q : ℕ) (columns : List ℕ) (m : ℕ) (word : List ℕ) (h : BrokenOver q columns m word) (full : length columns ≡ q * q)
+    (count : ℕ) (counted : count ≡ length (gapsOf word)) (vectors : List ℕ) (room : length vectors ≡ 4096)
+    (rows : IndicatorRows q columns (gapsOf word) 64 vectors) where
+  short : q * length columns ≤ 64
+  short = columns-short q columns (h .over) (h .few)
+
+  pub count-le : count ≤ 64
+  count-le = omega (arith, counted, place-bound (λ p. eqb (entry word p) 255) (length word), h .long, short)
+
+  pub count-fits : 64 * count ≤ length vectors
+  count-fits = omega (arith, count-le)
+
+  pub lent-long : length (take (64 * count) vectors) ≡ 64 * count
+  lent-long = length-take-le (64 * count) vectors count-fits
+
+  lent-at : (p i : ℕ) → p < count → i < 64 → entry (take (64 * count) vectors) (64 * p + i) ≡ entry vectors (64 * p + i)
+  lent-at p i l b = getD-take (64 * count) vectors (64 * p + i) 0 (omega arith)
+
+  pub lent-symbols : Below (fieldOf q .size) (take (64 * count) vectors)
+  lent-symbols = below-take (fieldOf q .size) vectors (64 * count) (rows .symbols)
+
+  lent-rows : IndicatorRows q columns (gapsOf word) 64 (take (64 * count) vectors)
+  lent-rows =
+      record {
+        symbols = lent-symbols;
+        at = λ p i j a b c.
+            lent-at p (q * i + j) (omega (arith, counted)) (omega (arith, short, place-lt q i j (length columns) c b)) ∙ rows .at p i j a b c;
+        zeros = λ p i a b c. lent-at p i (omega (arith, counted)) c ∙ rows .zeros p i a b c;
+      }
+
+  module _ (grid : List ℕ) (known : KnownGrid q columns word grid) (r : ℕ) (after left : List ℕ) (long : length left ≡ 64)
+      (eliminated : Eliminated (fieldOf q) (heavy q m) 64 count (rowsFrom 64 0 (take (64 * count) vectors) grid) count r
+      (rowsFrom 64 count after left)) where
+    abbrev gaps : List ℕ
+    gaps = gapsOf word
+
+    abbrev lent : List ℕ
+    lent = take (64 * count) vectors
+
+    ended : Eliminated (fieldOf q) (heavy q m) 64 (length gaps) (rowsFrom 64 0 lent grid) count r (rowsFrom 64 count after left)
+    ended =
+        subst (λ (e : ℕ). Eliminated (fieldOf q) (heavy q m) 64 e (rowsFrom 64 0 lent grid) count r (rowsFrom 64 count after left)) counted eliminated
+
+    done : length gaps ≤ count
+    done = omega (arith, counted)
+
+    listed : ListOf (Gap word) gaps
+    listed = gaps-listed word
+
+    grids : GapGrids q columns word gaps (rowsFrom 64 0 lent grid)
+    grids = rows-grids q columns (h .over) full word gaps (h .long) listed 64 short lent grid lent-rows known
+
+    pad : Padded (q * length columns) 64 (length gaps) (rowsFrom 64 0 lent grid)
+    pad = rows-padded q columns (h .over) full word gaps (h .long) listed 64 short lent grid lent-rows known
+
+    abbrev Test : Bool → Type 0
+    Test b = orderAtMost q m (length left) left ≡ b
+
+    is-light : Test true → ZeroOn (heavy q m) 64 (entry left)
+    is-light e = light q m 64 (entry left) left (λ i l. refl) (rw long at e)
+
+    pub nothing-left : Test false → reading (fieldOf q .size) (size q m) (wordOf q columns m) word ≡ nothing
+    nothing-left e =
+        gaps-nothing q columns m word h gaps listed _ grids 64 pad count r _ ended done
+        (not-light q m 64 (entry left) left (λ i l. refl) (rw long at e))
+
+    pub several-left : Test true → r < count → reading (fieldOf q .size) (size q m) (wordOf q columns m) word ≡ several (count - r)
+    several-left e l =
+        gaps-several q columns m word h gaps listed _ grids 64 pad count r _ ended done (is-light e) (omega (arith, counted))
+        ∙ ap (λ (x : ℕ). several (x - r)) (sym counted)
+
+    pub message-left : Test true → count ≤ r → reading (fieldOf q .size) (size q m) (wordOf q columns m) word ≡ message (gather q m left)
+    message-left e l =
+        gaps-message q columns m word h gaps listed _ grids 64 pad count r _ ended done (omega (arith, counted, eliminated .pivots)) left
+        (λ i b. refl) (is-light e)

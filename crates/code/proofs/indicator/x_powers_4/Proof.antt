@@ -1,0 +1,17 @@
+-- `code::indicator::x_powers_4` meets its contract: the rule of the table, by two computed tests.
+-- Assumes nothing.
+use mathlib.Core.Path.{refl}
+use native.Mathlib.Omega.{arith}
+use Rattle.field.specs.Power.{power}
+use Rattle.field.specs.Product.{times}
+use Rattle.field.specs.Tests.{every}
+use Rattle.code.proofs.IndicatorBlocks.{x-powers-table}
+use Rattle.code.proofs.indicator.x_powers_4.Statement.{statement}
+use Rattle.code.proofs.indicator.x_powers_4.Tie as tie
+
+returns : tie.Need-returns
+unfolding times power every
+returns c = x-powers-table 4 _ refl (omega arith) tt tt
+
+pub x-powers-4-spec : {M : Type 1} → statement M
+x-powers-4-spec = tie.close (tie.spec returns)

@@ -32,8 +32,8 @@
  * Threads. There is no state outside a call: no globals, no heap, no setup. Any
  * number of threads may call at once, each with output buffers of its own; they
  * may share an input. As built now, a call takes less than 12 KiB of stack
- * (measured and not proved: most is 11816 bytes, to mend, and of the other calls
- * 7704, to recover); from the platform it needs memcpy and memset.
+ * (measured and not proved: most is 11752 bytes, to mend, and of the other calls
+ * 7640, to recover); from the platform it needs memcpy and memset.
  *
  * Linking. `rt staticlib hermitian` writes target/staticlib/libhermitian.a, for
  * x86-64.

@@ -88,23 +88,25 @@ fn write_indicators(q: u8, columns: &[u8], word: &[u8], stride: usize, vectors: 
     count
 }
 
-// high[e] = 1 where the weight of entry e is above m, and 0 elsewhere.
+// high[e] = 1 where the weight of entry e is above m, and 0 elsewhere. Weights are of 16 bits, so that eight are compared at once.
 fn mark(q: u8, m: usize, high: &mut [u8])
-    requires { ⌜ IsCurve q × (length (now high) ≤ 512) ⌝ }
+    requires { ⌜ IsCurve q × (m < 512) × (length (now high) ≤ 512) ⌝ }
     ensures { λ _. ⌜ now (high .exit) ≡ writes (now (high .entry)) (length (now (high .entry))) (λ e. oneIf (heavy q m e)) ⌝ }
 {
-    let width = q as usize;
+    let width = q as u16;
+    let order = m as u16;
     let mut e = 0;
     while e < high.len() {
         let d = term::divide(q, e);
-        high[e] = if m < e + width * d.rest { 1 } else { 0 };
+        let weight = e as u16 + width * (d.rest as u16);
+        high[e] = if order < weight { 1 } else { 0 };
         e += 1;
     }
 }
 
 // Takes the gaps' vectors, count of them, out of the grid at the entries of a weight above m. Answers their rank at these.
 fn eliminate(q: u8, m: usize, count: usize, vectors: &mut [u8], grid: &mut [u8]) -> usize
-    requires { ⌜ IsCurve q × (length (now vectors) ≡ 64 * count) × Below (fieldOf q .size) (now vectors) ⌝ }
+    requires { ⌜ IsCurve q × (m < 512) × (length (now vectors) ≡ 64 * count) × Below (fieldOf q .size) (now vectors) ⌝ }
     requires { ⌜ (length (now grid) ≡ 64) × Below (fieldOf q .size) (now grid) ⌝ }
     ensures { λ r. ⌜ Below (fieldOf q .size) (now (grid .exit)) ⌝ }
     ensures { λ r. ⌜ Eliminated (fieldOf q) (heavy q m) 64 count (rowsFrom 64 0 (now (vectors .entry)) (now (grid .entry))) count r

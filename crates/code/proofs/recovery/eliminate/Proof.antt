@@ -29,7 +29,7 @@ eliminate-requires c κs =
     let marks = c .before .before .before .before .before .before .mark in
     let n = high-long (x .q) (x .m) (marks .last .1 .1 .0) (marks .ensures) in (
       (zero-table (x .q) _ n, zero-table (x .q) _ n),
-      ((rw n (s .pre .0 .1), s .pre .0 .2), (s .pre .1 .0 ∙ sym n, s .pre .1 .1)),
+      ((rw n (s .pre .0 .2), s .pre .0 .3), (s .pre .1 .0 ∙ sym n, s .pre .1 .1)),
     )
 
 same-length : tie.Need-same-length

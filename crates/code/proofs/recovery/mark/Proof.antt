@@ -2,29 +2,34 @@
 -- Assumes nothing.
 use mathlib.Core.Logic.{⊎-elim}
 use mathlib.Core.Path.{_≡_, refl, _∙_}
-use Prim.Native.Nat.{_-_, _*_, _≤_}
+use Prim.Native.Nat.{_-_, _*_, _≤_, _<_}
+use native.Mathlib.Nat.{mod-lt}
 use native.Mathlib.Omega.{arith}
 use borrow.Author.Needs.{needs}
 use denote.Ref.{now}
 use lib.ListN.{length, length-set}
+use Rattle.field.proofs.Curves.{sizes}
 use Rattle.poly.specs.Lists.{oneIf}
 use Rattle.poly.specs.inner.Ranges.{writes}
 use Rattle.poly.proofs.Writes.{writes-turn, writes-end}
 use Rattle.code.specs.inner.Gaps.{heavy}
-use Rattle.code.proofs.Weights.{small-product}
+use Rattle.code.proofs.Weights.{curve-pos, small-product}
 use Rattle.code.proofs.IndicatorRows.{heavy-one, heavy-none}
 use Rattle.code.proofs.recovery.mark.Statement.{statement}
 use Rattle.code.proofs.recovery.mark.Tie as tie
 
 abbrev Inv-loop : tie.InvT-loop
-Inv-loop q m high₀ width e₀ high e =
+Inv-loop q m high₀ width order e₀ high e =
     (e ≤ length high₀) × (length high ≡ length high₀) × (high ≡ writes high₀ e (λ e. oneIf (heavy q m e)))
 
 abbrev μ-loop : tie.MeasureT-loop
-μ-loop q m high₀ width e₀ high e = length high₀ - e
+μ-loop q m high₀ width order e₀ high e = length high₀ - e
 
 cast-width : tie.Need-cast-width Inv-loop μ-loop
 cast-width c = search needs
+
+cast-order : tie.Need-cast-order Inv-loop μ-loop
+cast-order c = omega (arith, c .before .pre .1)
 
 loop-holds : tie.Need-loop-holds Inv-loop μ-loop
 unfolding writes
@@ -39,11 +44,24 @@ low c =
     let s = c .before .before .before .before in
     small-product (s .args .q) (s .pre .0) (c .before .before .loop .e) (c .divide .result .rest) (c .divide .ensures .1)
 
-mul-if1 : tie.Need-mul-if1 Inv-loop μ-loop
-mul-if1 c = omega (arith, low c)
+-- the remainder is too
+remainder-low : (c : tie.After-divide Inv-loop μ-loop) → c .divide .result .rest ≤ 16
+remainder-low c =
+    let s = c .before .before .before .before in
+    let l : c .divide .result .rest < s .args .q = rw (c .divide .ensures .1) (mod-lt (c .before .before .loop .e) (curve-pos _ (s .pre .0))) in
+    omega (arith, sizes _ (s .pre .0) .high)
 
-add-if1 : tie.Need-add-if1 Inv-loop μ-loop
-add-if1 c = omega (arith, low c, c .before .before .loop .inv .0, c .before .before .before .before .pre .1)
+cast-weight : tie.Need-cast-weight Inv-loop μ-loop
+cast-weight c = omega (arith, c .before .before .loop .inv .0, c .before .before .before .before .pre .2)
+
+cast-weight-2 : tie.Need-cast-weight-2 Inv-loop μ-loop
+cast-weight-2 c = omega (arith, remainder-low c)
+
+mul-weight : tie.Need-mul-weight Inv-loop μ-loop
+mul-weight c = omega (arith, low c)
+
+add-weight : tie.Need-add-weight Inv-loop μ-loop
+add-weight c = omega (arith, low c, c .before .before .loop .inv .0, c .before .before .before .before .pre .2)
 
 slice-write-high : tie.Need-slice-write-high Inv-loop μ-loop
 slice-write-high c = omega (arith, c .before .before .loop-test .taken)
@@ -81,10 +99,13 @@ mark-spec =
     Inv-loop
     μ-loop
     cast-width
+    cast-order
     loop-holds
     divide-requires
-    mul-if1
-    add-if1
+    cast-weight
+    cast-weight-2
+    mul-weight
+    add-weight
     slice-write-high
     add-e
     loop-less

@@ -102,16 +102,11 @@ slice-aggregate-eliminate-2 c = search needs
 
 eliminate-requires : tie.Need-eliminate-requires
 eliminate-requires c κs =
+    let b = c .before .before .before .before .before .before .before .before .before .before .before .before .pre .0 .0 in
     let lent = vectors-lent (c .before .before .before .before .before .before) in
-    let g = c .before .before .before .write-grid in (
-      (
-        c .before .before .before .before .before .before .before .before .before .before .before
-            .before .pre .0 .0 .over .curve,
-        lent .2,
-        lent .3,
-      ),
-      (g .kept .1 .1 .1 .1 .0, g .ensures .symbols),
-    )
+    let g = c .before .before .before .write-grid in
+    let short = word-short _ _ _ (broken-0 _ _ _ _ b) in
+    ((b .over .curve, omega (arith, b .order, b .long, short), lent .2, lent .3), (g .kept .1 .1 .1 .1 .0, g .ensures .symbols))
 
 slice-aggregate-order-at-most : tie.Need-slice-aggregate-order-at-most
 slice-aggregate-order-at-most c = search needs

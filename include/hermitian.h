@@ -18,6 +18,9 @@
  * enough to recover its message; fewer may be. Up to t wrong symbols of a whole
  * word are always mended, t being 10 for the strap.
  *
+ * An m above 7 or 63, up to 65535, is refused. Earlier m was a uint8_t: a value up to
+ * 255 means what it meant, but callers compiled then must be compiled anew.
+ *
  * Memory. The library trusts these four points and can't check them:
  *   - Each pointer is good for as many bytes as the length beside it says.
  *   - No pointer is NULL, not even beside the length 0: pass the address of any
@@ -33,7 +36,7 @@
  * number of threads may call at once, each with output buffers of its own; they
  * may share an input. As built now, a call takes less than 12 KiB of stack
  * (measured and not proved: most is 11752 bytes, to mend, and of the other calls
- * 7640, to recover); from the platform it needs memcpy and memset.
+ * 7656, to recover); from the platform it needs memcpy and memset.
  *
  * Linking. `rt staticlib hermitian` writes target/staticlib/libhermitian.a, for
  * x86-64.
@@ -61,7 +64,7 @@ enum hermitian_refusal {
     HERMITIAN_DONE = 0,
     /* q is neither 2 nor 4. */
     HERMITIAN_UNKNOWN_CURVE = 1,
-    /* m is n or more: above 7 (q = 2) or above 63 (q = 4). */
+    /* m is n or more: above 7 (q = 2) or above 63 (q = 4), up to 65535. */
     HERMITIAN_ORDER_TOO_HIGH = 2,
     /* The input isn't as long as it must be: k for a message, n for a word. */
     HERMITIAN_WRONG_INPUT_LENGTH = 3,
@@ -88,19 +91,19 @@ enum hermitian_refusal {
 };
 
 /* Writes the word of a message: message_length must be k, word_length n. */
-uint32_t hermitian_encode(uint8_t q, uint8_t m,
+uint32_t hermitian_encode(uint8_t q, uint16_t m,
                           const uint8_t *message, size_t message_length,
                           uint8_t *word, size_t word_length);
 
 /* Writes the message of a whole word: word_length must be n, message_length k.
    HERMITIAN_MISSING counts as a bad value here. */
-uint32_t hermitian_unencode(uint8_t q, uint8_t m,
+uint32_t hermitian_unencode(uint8_t q, uint16_t m,
                             const uint8_t *word, size_t word_length,
                             uint8_t *message, size_t message_length);
 
 /* Writes the only message that fits a word in which HERMITIAN_MISSING stands at
    each missing place: word_length must be n, message_length k. */
-uint32_t hermitian_recover(uint8_t q, uint8_t m,
+uint32_t hermitian_recover(uint8_t q, uint16_t m,
                            const uint8_t *word, size_t word_length,
                            uint8_t *message, size_t message_length);
 
@@ -111,7 +114,7 @@ uint32_t hermitian_recover(uint8_t q, uint8_t m,
    count of changes is that of the ones. word_length, mended_length and
    marks_length must be n, message_length k. HERMITIAN_MISSING counts as a bad
    value here. */
-uint32_t hermitian_mend(uint8_t q, uint8_t m,
+uint32_t hermitian_mend(uint8_t q, uint16_t m,
                         const uint8_t *word, size_t word_length,
                         uint8_t *message, size_t message_length,
                         uint8_t *mended, size_t mended_length,
@@ -129,7 +132,7 @@ static inline size_t hermitian_word_length(uint8_t q) {
 
 /* k, the length of a message: the number of terms x^i * y^j with j below q and
    weight q * i + (q + 1) * j up to m; 0 if q or m would be refused. */
-static inline size_t hermitian_message_length(uint8_t q, uint8_t m) {
+static inline size_t hermitian_message_length(uint8_t q, uint16_t m) {
     size_t length = 0;
     size_t weight_of_y_part;
     if (m >= hermitian_word_length(q)) {

@@ -161,6 +161,11 @@ static void refuse(const uint8_t word[N]) {
     explain(answer);
     expect(hermitian_number(answer) == HERMITIAN_NOT_A_SYMBOL && hermitian_second(answer) == 9,
            "the bad byte is named");
+
+    answer = hermitian_recover(Q, 256 + M, word, N, read, K);
+    explain(answer);
+    expect(hermitian_number(answer) == HERMITIAN_ORDER_TOO_HIGH,
+           "an order of 293 isn't taken for 37, its low byte");
     expect(memcmp(read, untouched, K) == 0, "the refusals wrote nothing");
 }
 

@@ -8,7 +8,7 @@ use job::turns;
 #[no_mangle]
 pub extern "C" fn bench_recover_in_turns(
     q: u8,
-    m: u8,
+    m: u16,
     word: &[u8],
     budgets: &[u8],
     message: &mut [u8],

@@ -1,6 +1,8 @@
 // Runs the public entries on the cases of standard input, records of 160 bytes, and prints a line for each.
 // The module `case_record` of host/reference has the layout of a record and of its line.
+ghost use mathlib.Core.Path.{_≡_};
 ghost use Prim.Native.Nat.{_≤_};
+ghost use lib.ListN.{length};
 use field::Outcome;
 use job::Job;
 use job::Opening;
@@ -16,14 +18,28 @@ fn room(length: usize) -> usize
     if length < 72 { length } else { 72 }
 }
 
-fn print_number(n: u8) {
+fn print_number(n: u16) {
     io::print_decimal(STDOUT_FILENO, n as u64);
+}
+
+fn print_byte(n: u8) {
+    print_number(n as u16);
+}
+
+// The number of two bytes.
+fn number(low: u8, high: u8) -> u16 {
+    (low as u16) + 256 * (high as u16)
+}
+
+// The order of a record.
+fn order(record: [u8; 160]) -> u16 {
+    number(record[2], record[152])
 }
 
 // The op and the two numbers of the answer, each with a space after it.
 fn print_answer(op: u8, outcome: Outcome) {
     io::write_all(STDOUT_FILENO, &[op, b' ']);
-    print_number(field::outcome::number(outcome));
+    print_byte(field::outcome::number(outcome));
     io::write_all(STDOUT_FILENO, &[b' ']);
     print_number(field::outcome::second(outcome));
     io::write_all(STDOUT_FILENO, &[b' ']);
@@ -54,14 +70,14 @@ fn field_case(op: u8, q: u8, a: u8, b: u8) {
     let outcome = answer.outcome;
     let symbol = answer.symbol;
     print_answer(op, outcome);
-    print_number(symbol);
+    print_byte(symbol);
     io::write_all(STDOUT_FILENO, &[b'\n']);
 }
 
 fn run_on_slices(
     op: u8,
     q: u8,
-    m: u8,
+    m: u16,
     session: Session,
     input: &[u8],
     output: &mut [u8],
@@ -74,7 +90,7 @@ fn run_on_slices(
     }
 }
 
-fn slice_answer(op: u8, q: u8, m: u8, session: Session, input: &[u8], output: &mut [u8]) {
+fn slice_answer(op: u8, q: u8, m: u16, session: Session, input: &[u8], output: &mut [u8]) {
     let outcome = run_on_slices(op, q, m, session, input, output);
     print_answer(op, outcome);
     print_values(output, b'\n');
@@ -87,19 +103,26 @@ fn slice_case(session: Session, record: [u8; 160]) {
     slice_answer(
         record[0],
         record[1],
-        record[2],
+        order(record),
         session,
         &record[8..input_end],
         &mut lent[80..output_end],
     );
 }
 
-fn mend_answer(q: u8, m: u8, word: &[u8], message: &mut [u8], mended: &mut [u8], marks: &mut [u8]) {
+fn mend_answer(
+    q: u8,
+    m: u16,
+    word: &[u8],
+    message: &mut [u8],
+    mended: &mut [u8],
+    marks: &mut [u8],
+) {
     let reply = mend::mend(q, m, word, message, mended, marks);
     let outcome = reply.outcome;
     let count = reply.count;
     print_answer(b'm', outcome);
-    print_number(count);
+    print_byte(count);
     io::write_all(STDOUT_FILENO, &[b' ']);
     print_values(message, b' ');
     print_values(mended, b' ');
@@ -117,7 +140,7 @@ fn mend_case(record: [u8; 160]) {
     let marks_end = 80 + room(record[6] as usize);
     mend_answer(
         record[1],
-        record[2],
+        order(record),
         &record[8..word_end],
         &mut message[80..message_end],
         &mut mended[80..mended_end],
@@ -144,7 +167,7 @@ fn raw_session(record: [u8; 160]) -> Session {
     let rounds = bytes_from(80, record);
     Session {
         q: record[1],
-        m: record[2],
+        m: order(record),
         places,
         rounds,
     }
@@ -152,12 +175,12 @@ fn raw_session(record: [u8; 160]) -> Session {
 
 fn session_reply(session: Session, record: [u8; 160]) -> Reply {
     match record[0] {
-        b'o' => session::open(record[1], record[2]),
+        b'o' => session::open(record[1], order(record)),
         b's' => Reply {
             session: raw_session(record),
             outcome: Outcome::Done,
         },
-        _ => session.arrive(record[5], record[6], record[7]),
+        _ => session.arrive(number(record[5], record[153]), record[6], record[7]),
     }
 }
 
@@ -168,13 +191,86 @@ fn session_case(session: Session, record: [u8; 160]) -> Session {
     let places = next.places;
     let rounds = next.rounds;
     print_answer(record[0], outcome);
-    print_number(next.q);
+    print_byte(next.q);
     io::write_all(STDOUT_FILENO, &[b' ']);
     print_number(next.m);
     io::write_all(STDOUT_FILENO, &[b' ']);
     print_values(&places, b' ');
     print_values(&rounds, b'\n');
     next
+}
+
+// The places of eighteen arrivals, of which each has four bytes of the input: the place, the symbol and the round.
+fn arrival_places(record: [u8; 160]) -> [u16; 18]
+    ensures { λ r. ⌜ length r ≡ 18 ⌝ }
+{
+    let mut places = [0u16; 18];
+    let mut i = 0;
+    while i < 18 {
+        let at = 8 + 4 * i;
+        places[i] = number(record[at], record[at + 1]);
+        i += 1;
+    }
+    places
+}
+
+// Every fourth of 72 bytes of a record, from `start` on.
+fn every_fourth(start: usize, record: [u8; 160]) -> [u8; 18]
+    requires { ⌜ start ≤ 88 ⌝ }
+    ensures { λ r. ⌜ length r ≡ 18 ⌝ }
+{
+    let mut bytes = [0u8; 18];
+    let mut i = 0;
+    while i < 18 {
+        bytes[i] = record[start + 4 * i];
+        i += 1;
+    }
+    bytes
+}
+
+fn replay_answer(record: [u8; 160], count: usize, message: &mut [u8])
+    requires { ⌜ count ≤ 18 ⌝ }
+{
+    let places = arrival_places(record);
+    let symbols = every_fourth(10, record);
+    let rounds = every_fourth(11, record);
+    let outcome = session::replay::replay(
+        record[1],
+        order(record),
+        &places[..count],
+        &symbols[..count],
+        &rounds[..count],
+        message,
+    );
+    print_answer(b'p', outcome);
+    print_values(message, b'\n');
+}
+
+fn replay_case(record: [u8; 160]) {
+    let mut lent = record;
+    let message_end = 80 + room(record[4] as usize);
+    let count = room(record[3] as usize) / 4;
+    replay_answer(record, count, &mut lent[80..message_end]);
+}
+
+fn turns_answer(q: u8, m: u16, word: &[u8], budgets: &[u8], message: &mut [u8]) {
+    let outcome = job::turns::recover_in_turns(q, m, word, budgets, message);
+    print_answer(b't', outcome);
+    print_values(message, b'\n');
+}
+
+fn turns_case(record: [u8; 160]) {
+    let mut lent = record;
+    let budgets = [record[5], record[6], record[7]];
+    let word_end = 8 + room(record[3] as usize);
+    let message_end = 80 + room(record[4] as usize);
+    turns_answer(
+        record[1],
+        order(record),
+        &record[8..word_end],
+        &budgets,
+        &mut lent[80..message_end],
+    );
 }
 
 // Runs a case of no job at the current session and answers the one after it.
@@ -189,6 +285,14 @@ fn run_case(session: Session, record: [u8; 160]) -> Session {
             mend_case(record);
             session
         }
+        b'p' => {
+            replay_case(record);
+            session
+        }
+        b't' => {
+            turns_case(record);
+            session
+        }
         _ => {
             slice_case(session, record);
             session
@@ -200,7 +304,7 @@ fn run_case(session: Session, record: [u8; 160]) -> Session {
 fn job_opening(session: Session, record: [u8; 160]) -> Opening {
     let word_end = 8 + room(record[3] as usize);
     match record[0] {
-        b'j' => job::open(record[1], record[2], &record[8..word_end]),
+        b'j' => job::open(record[1], order(record), &record[8..word_end]),
         _ => session.job(),
     }
 }
@@ -211,7 +315,7 @@ fn opening_case(session: Session, record: [u8; 160]) -> Job {
     let outcome = opening.outcome;
     let places = next.places;
     print_answer(record[0], outcome);
-    print_number(next.q);
+    print_byte(next.q);
     io::write_all(STDOUT_FILENO, &[b' ']);
     print_number(next.m);
     io::write_all(STDOUT_FILENO, &[b' ']);
@@ -239,7 +343,7 @@ fn call_answer(job: Job, budget: u8, message: &mut [u8]) -> Job {
     let next = turn.job;
     let reply = turn.reply;
     print_answer(b'c', job::outcome(reply));
-    print_number(turn.brought);
+    print_byte(turn.brought);
     print_kind(reply);
     print_values(message, b'\n');
     next
@@ -292,8 +396,8 @@ fn raw_job(record: [u8; 160]) -> Job {
         candidate: message,
         whole: message,
         q: record[1],
-        m: record[2],
-        next: record[3],
+        m: order(record),
+        next: number(record[3], record[153]),
         complete: record[6] / 2 % 2 == 1,
         clash: record[6] % 2 == 1,
     }

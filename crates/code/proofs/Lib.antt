@@ -39,3 +39,4 @@ pub mod GapAnswers
 pub mod HeavyMarks
 pub mod Inverse
 pub mod PaperValues
+pub mod HighOrders

@@ -68,14 +68,14 @@ pub fn first_bad(gaps: bool, size: u8, values: &[u8]) -> usize
     i
 }
 
-// 4, of values whose index is a byte.
+// 4, of values whose index has 16 bits.
 pub fn values(gaps: bool, size: u8, input: &[u8]) -> Outcome
-    requires { ⌜ length (now input) ≤ 255 ⌝ }
+    requires { ⌜ length (now input) ≤ 65535 ⌝ }
     ensures { λ r. ⌜ r ≡ valueCheck gaps size (now (input .entry)) Done ⌝ }
 {
     let bad = first_bad(gaps, size, input);
     if bad < input.len() {
-        return Outcome::BadValue(bad as u8);
+        return Outcome::BadValue(bad as u16);
     }
     Outcome::Done
 }
@@ -89,7 +89,7 @@ pub fn slices(
     writes: usize,
     room: usize,
 ) -> Outcome
-    requires { ⌜ takes ≤ 255 ⌝ }
+    requires { ⌜ takes ≤ 65535 ⌝ }
     ensures { λ r. ⌜ r ≡ sliceChecks gaps size takes (now (input .entry)) writes room Done ⌝ }
 {
     if input.len() != takes {

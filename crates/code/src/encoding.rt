@@ -87,7 +87,7 @@ pub fn write_word(q: u8, columns: &[u8], m: usize, message: &[u8], word: &mut [u
 }
 
 // The word of a message, in the order of the points.
-pub fn encode(q: u8, m: u8, message: &[u8], word: &mut [u8]) -> Outcome
+pub fn encode(q: u8, m: u16, message: &[u8], word: &mut [u8]) -> Outcome
     ensures { λ r. ⌜ encoded q m (now (message .entry)) (now (word .entry)) ≡ answered r (now (word .exit)) ⌝ }
 {
     let order = m as usize;

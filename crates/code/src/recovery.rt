@@ -141,7 +141,7 @@ pub fn recover_over(
     let rank = eliminate(q, m, count, &mut vectors[..end], &mut grid);
     if grid::order_at_most(q, m, &grid) {
         if rank < count {
-            return Outcome::Several((count - rank) as u8);
+            return Outcome::Several((count - rank) as u16);
         }
         grid::gather(q, m, &grid, message);
         return Outcome::Done;
@@ -150,7 +150,7 @@ pub fn recover_over(
 }
 
 // The message that alone fits a broken word, 255 standing for each missing symbol.
-pub fn recover(q: u8, m: u8, word: &[u8], message: &mut [u8]) -> Outcome
+pub fn recover(q: u8, m: u16, word: &[u8], message: &mut [u8]) -> Outcome
     ensures { λ r. ⌜ recovered q m (now (word .entry)) (now (message .entry)) ≡ answered r (now (message .exit)) ⌝ }
 {
     let order = m as usize;

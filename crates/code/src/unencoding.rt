@@ -82,7 +82,7 @@ pub fn read_word(
 }
 
 // The message whose word, in the order of the points, is the word.
-pub fn unencode(q: u8, m: u8, word: &[u8], message: &mut [u8]) -> Outcome
+pub fn unencode(q: u8, m: u16, word: &[u8], message: &mut [u8]) -> Outcome
     ensures { λ r. ⌜ unencoded q m (now (word .entry)) (now (message .entry)) ≡ answered r (now (message .exit)) ⌝ }
 {
     let order = m as usize;

@@ -10,13 +10,13 @@ pub enum Outcome {
     BadOrder,
     BadLength,
     // the lowest index of a bad value
-    BadValue(u8),
+    BadValue(u16),
     BadRoom,
     BadPlace,
     BadSymbol,
     NoMessage,
     // the r of Q^r messages that fit
-    Several(u8),
+    Several(u16),
     // request T-03: numbers 11, no codeword within the radius, and 12, no radius at this order
     NoneNear,
     NoRadius,
@@ -46,7 +46,7 @@ pub fn number(o: Outcome) -> u8
 }
 
 // The second number.
-pub fn second(o: Outcome) -> u8
+pub fn second(o: Outcome) -> u16
     ensures { λ r. ⌜ r ≡ second o ⌝ }
 {
     match o {

@@ -10,21 +10,21 @@ use code::unencoding;
 use field::outcome;
 
 #[no_mangle]
-pub extern "C" fn hermitian_encode(q: u8, m: u8, message: &[u8], word: &mut [u8]) -> u32
+pub extern "C" fn hermitian_encode(q: u8, m: u16, message: &[u8], word: &mut [u8]) -> u32
     ensures { λ r. ⌜ Packed (encoded q m (now (message .entry)) (now (word .entry))) r (now (word .exit)) ⌝ }
 {
     outcome::packed(encoding::encode(q, m, message, word))
 }
 
 #[no_mangle]
-pub extern "C" fn hermitian_recover(q: u8, m: u8, word: &[u8], message: &mut [u8]) -> u32
+pub extern "C" fn hermitian_recover(q: u8, m: u16, word: &[u8], message: &mut [u8]) -> u32
     ensures { λ r. ⌜ Packed (recovered q m (now (word .entry)) (now (message .entry))) r (now (message .exit)) ⌝ }
 {
     outcome::packed(recovery::recover(q, m, word, message))
 }
 
 #[no_mangle]
-pub extern "C" fn hermitian_unencode(q: u8, m: u8, word: &[u8], message: &mut [u8]) -> u32
+pub extern "C" fn hermitian_unencode(q: u8, m: u16, word: &[u8], message: &mut [u8]) -> u32
     ensures { λ r. ⌜ Packed (unencoded q m (now (word .entry)) (now (message .entry))) r (now (message .exit)) ⌝ }
 {
     outcome::packed(unencoding::unencode(q, m, word, message))
@@ -33,7 +33,7 @@ pub extern "C" fn hermitian_unencode(q: u8, m: u8, word: &[u8], message: &mut [u
 #[no_mangle]
 pub extern "C" fn hermitian_mend(
     q: u8,
-    m: u8,
+    m: u16,
     word: &[u8],
     message: &mut [u8],
     codeword: &mut [u8],

@@ -12,3 +12,4 @@ pub mod Tellings
 pub mod Results
 pub mod Carrying
 pub mod Turning
+pub mod HighOrders

@@ -28,7 +28,7 @@ use poly::rows;
 pub enum Reply {
     Refused,
     NoneFits,
-    Leaves(u8),
+    Leaves(u16),
     Finished(Outcome),
 }
 
@@ -41,8 +41,8 @@ pub struct Job {
     pub candidate: [u8; 64],
     pub whole: [u8; 64],
     pub q: u8,
-    pub m: u8,
-    pub next: u8,
+    pub m: u16,
+    pub next: u16,
     pub complete: bool,
     pub clash: bool,
 }
@@ -61,7 +61,7 @@ pub struct Turn {
 }
 
 // A job of a word, of which nothing has been brought in. Places after the word are missing.
-fn fresh(q: u8, m: u8, word: &[u8]) -> Job
+fn fresh(q: u8, m: u16, word: &[u8]) -> Job
     requires { ⌜ length (now word) ≤ 64 ⌝ }
     ensures { λ r. ⌜ Fresh q m (now (word .entry)) r ⌝ }
 {
@@ -81,7 +81,7 @@ fn fresh(q: u8, m: u8, word: &[u8]) -> Job
 }
 
 // From what recovery takes, without the slice: refusals 1 to 4.
-pub fn open(q: u8, m: u8, word: &[u8]) -> Opening
+pub fn open(q: u8, m: u16, word: &[u8]) -> Opening
     ensures { λ r. ⌜ opened q m (now (word .entry)) ≡ record { task = taskOf (r .job); outcome = r .outcome } ⌝ }
     ensures { λ r. ⌜ Sound (r .job) ⌝ }
 {
@@ -97,20 +97,20 @@ pub fn open(q: u8, m: u8, word: &[u8]) -> Opening
 
 // By what has been brought in: k is the length of a message, n that of the word.
 fn tell(k: usize, n: usize, r: Progress) -> Reply
-    requires { ⌜ (k ≤ 255) × (r .clash ≡ false → r .rank ≤ k) ⌝ }
+    requires { ⌜ (k ≤ 65535) × (r .clash ≡ false → r .rank ≤ k) ⌝ }
     ensures { λ s. ⌜ s ≡ replyBy k n r ⌝ }
 {
     if r.next < n {
         if r.clash {
             return Reply::NoneFits;
         }
-        return Reply::Leaves((k - r.rank) as u8);
+        return Reply::Leaves((k - r.rank) as u16);
     }
     if r.clash {
         return Reply::Finished(Outcome::NoMessage);
     }
     if r.rank < k {
-        return Reply::Finished(Outcome::Several((k - r.rank) as u8));
+        return Reply::Finished(Outcome::Several((k - r.rank) as u16));
     }
     Reply::Finished(Outcome::Done)
 }
@@ -184,7 +184,7 @@ impl Job {
                 );
                 self.candidate = candidate;
                 self.whole = whole;
-                self.next = r.next as u8;
+                self.next = r.next as u16;
                 self.complete = r.rank == k;
                 self.clash = r.clash;
                 let said = tell(k, n, r);

@@ -16,7 +16,7 @@ use field::Named;
 use field::Outcome;
 
 // Checks 1 to 4.
-pub fn opening(q: u8, m: u8, word: &[u8]) -> Outcome
+pub fn opening(q: u8, m: u16, word: &[u8]) -> Outcome
     ensures { λ r. ⌜ r ≡ openChecks q m (now (word .entry)) ⌝ }
 {
     let order = m as usize;
@@ -52,7 +52,7 @@ fn is_formed(
 // Whether a job of any bytes may be carried on.
 pub fn usable(
     q: u8,
-    m: u8,
+    m: u16,
     next: usize,
     complete: bool,
     clash: bool,

@@ -24,7 +24,7 @@ fn carry_through(mut job: Job, budgets: &[u8], message: &mut [u8]) -> Job
 
 // Opens a job, carries it on with each budget in turn and then with 255, which is more than can remain: it answers what recovery in
 // one go does, whatever the budgets.
-pub fn recover_in_turns(q: u8, m: u8, word: &[u8], budgets: &[u8], message: &mut [u8]) -> Outcome
+pub fn recover_in_turns(q: u8, m: u16, word: &[u8], budgets: &[u8], message: &mut [u8]) -> Outcome
     ensures { λ r. ⌜ recovered q m (now (word .entry)) (now (message .entry)) ≡ answered r (now (message .exit)) ⌝ }
 {
     let opening = crate::open(q, m, word);

@@ -54,9 +54,9 @@ pub length-decimal : (n : ℕ) → n < 2 ^ 64 → length (decimal n) ≤ 20
 unfolding decimal
 length-decimal n h = length-decimalIn 19 (suc n) n (omega arith)
 
-pub length-byte : (n : ℕ) → n < 256 → length (decimal n) ≤ 3
+pub length-16-bits : (n : ℕ) → n < 65536 → length (decimal n) ≤ 5
 unfolding decimal
-length-byte n h = length-decimalIn 2 (suc n) n (omega arith)
+length-16-bits n h = length-decimalIn 4 (suc n) n (omega arith)
 
 -- a number of one digit is written
 pub small-written : (l : List ℕ) (at n : ℕ) → n < 10 → Written l at (decimal n) (at + 1) (set l at (48 + n))

@@ -79,7 +79,7 @@ length-spaces at end h = length-take-le (at + 18 - end) (spaces 0 0) (omega arit
 -- they are those that the line lacks
 pub last-line-whole :
     {l d e f : List ℕ} {at end b c : ℕ} (refusal r : ℕ) →
-    Written l at (resultText refusal r) end d → end ≤ at + 11 →
+    Written l at (resultText refusal r) end d → end ≤ at + 13 →
     Written d end (spaces at end) b e →
     Written e b (10 ∷ []) c f →
     Written l at (lastLine refusal r) c f × (c ≡ at + 19)

@@ -17,7 +17,7 @@ fn ok_line(number: usize, message: &[u8], at: usize, out: &mut [u8]) -> usize
     text::bytes(&[b'\n'], b, out)
 }
 
-fn no_line(number: usize, refusal: u8, second: u8, at: usize, out: &mut [u8]) -> usize
+fn no_line(number: usize, refusal: u8, second: u16, at: usize, out: &mut [u8]) -> usize
     requires { ⌜ at + 66 ≤ length (now out) ⌝ }
     ensures { λ r. ⌜ Written (now (out .entry)) at (noLine number refusal second) r (now (out .exit)) × (r ≤ at + 66) ⌝ }
 {

@@ -63,18 +63,18 @@ fn column_lines(block: &[u8], at: usize, out: &mut [u8]) -> usize
     end
 }
 
-fn several(r: u8, at: usize, out: &mut [u8]) -> usize
-    requires { ⌜ at + 11 ≤ length (now out) ⌝ }
-    ensures { λ end. ⌜ Written (now (out .entry)) at (severalText r) end (now (out .exit)) × (end ≤ at + 11) ⌝ }
+fn several(r: u16, at: usize, out: &mut [u8]) -> usize
+    requires { ⌜ at + 13 ≤ length (now out) ⌝ }
+    ensures { λ end. ⌜ Written (now (out .entry)) at (severalText r) end (now (out .exit)) × (end ≤ at + 13) ⌝ }
 {
     let end = text::bytes(&[b's', b'e', b'v', b'e', b'r', b'a', b'l', b' '], at, out);
     text::decimal(r as usize, end, out)
 }
 
-// What the last line says of an outcome, by its two numbers: 11 characters at the most.
-fn result_text(refusal: u8, second: u8, at: usize, out: &mut [u8]) -> usize
-    requires { ⌜ at + 11 ≤ length (now out) ⌝ }
-    ensures { λ r. ⌜ Written (now (out .entry)) at (resultText refusal second) r (now (out .exit)) × (r ≤ at + 11) ⌝ }
+// What the last line says of an outcome, by its two numbers: 13 characters at the most.
+fn result_text(refusal: u8, second: u16, at: usize, out: &mut [u8]) -> usize
+    requires { ⌜ at + 13 ≤ length (now out) ⌝ }
+    ensures { λ r. ⌜ Written (now (out .entry)) at (resultText refusal second) r (now (out .exit)) × (r ≤ at + 13) ⌝ }
 {
     if refusal == 0 {
         text::bytes(&[b'o', b'k'], at, out)
@@ -87,7 +87,7 @@ fn result_text(refusal: u8, second: u8, at: usize, out: &mut [u8]) -> usize
     }
 }
 
-fn last_line(refusal: u8, second: u8, at: usize, out: &mut [u8]) -> usize
+fn last_line(refusal: u8, second: u16, at: usize, out: &mut [u8]) -> usize
     requires { ⌜ at + 19 ≤ length (now out) ⌝ }
     ensures { λ r. ⌜ Written (now (out .entry)) at (lastLine refusal second) r (now (out .exit)) × (r ≡ at + 19) ⌝ }
 {

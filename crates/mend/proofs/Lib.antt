@@ -18,3 +18,4 @@ pub mod Marks
 pub mod Checking
 pub mod Answering
 pub mod Facts
+pub mod HighOrders

@@ -26,7 +26,7 @@ fn erase(word: &[u8], located: &mut [u8])
 }
 
 // The message that alone fits the symbols where the locator isn't 0.
-fn read_rest(q: u8, m: u8, s: u8, word: &[u8], locator: &[u8], message: &mut [u8]) -> bool
+fn read_rest(q: u8, m: u16, s: u16, word: &[u8], locator: &[u8], message: &mut [u8]) -> bool
     requires { ⌜ Mendable q m (now word) × (s ≡ reach q m) × Locator q m (now word) (now locator) × (length (now message) ≡ size q m) ⌝ }
     ensures { λ r. ⌜ OnlyNear q m (now (word .entry)) (now (message .exit)) r ⌝ }
 {
@@ -42,7 +42,7 @@ fn read_rest(q: u8, m: u8, s: u8, word: &[u8], locator: &[u8], message: &mut [u8
 }
 
 // A codeword's own message, and else what is read where a locator isn't 0.
-pub fn find(q: u8, m: u8, t: usize, word: &[u8], message: &mut [u8]) -> bool
+pub fn find(q: u8, m: u16, t: usize, word: &[u8], message: &mut [u8]) -> bool
     requires { ⌜ Mendable q m (now word) × (t ≡ radius q m) × (length (now message) ≡ size q m) ⌝ }
     ensures { λ r. ⌜ OnlyNear q m (now (word .entry)) (now (message .exit)) r ⌝ }
 {
@@ -55,7 +55,7 @@ pub fn find(q: u8, m: u8, t: usize, word: &[u8], message: &mut [u8]) -> bool
     let k = term::size(q, s);
     let mut found = [0u8; 32];
     if locator::find(q, m as usize, s, word, &mut found[..k]) {
-        return read_rest(q, m, s as u8, word, &found[..k], message);
+        return read_rest(q, m, s as u16, word, &found[..k], message);
     }
     false
 }

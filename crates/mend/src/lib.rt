@@ -70,7 +70,7 @@ fn radius(q: u8, m: usize) -> usize
 // Writes the only candidate if its word is near.
 fn write_near(
     q: u8,
-    m: u8,
+    m: u16,
     t: usize,
     word: &[u8],
     candidate: &[u8],
@@ -105,7 +105,7 @@ fn write_near(
 // Mends a word that is past the checks.
 fn mend_word(
     q: u8,
-    m: u8,
+    m: u16,
     word: &[u8],
     message: &mut [u8],
     codeword: &mut [u8],
@@ -130,7 +130,7 @@ fn mend_word(
 // The message of the codeword near a word, that codeword, and marks where it differs from the word.
 pub fn mend(
     q: u8,
-    m: u8,
+    m: u16,
     word: &[u8],
     message: &mut [u8],
     codeword: &mut [u8],

@@ -18,7 +18,7 @@ use field::Curve;
 use field::Outcome;
 
 // The word of a message.
-pub fn encode(q: u8, m: u8, message: &[u8], word: &mut [u8])
+pub fn encode(q: u8, m: u16, message: &[u8], word: &mut [u8])
     requires { ⌜ Encodable q (columnsOf q) m (now message) (now word) ⌝ }
     ensures { λ _. ⌜ now (word .exit) ≡ wordOf q (columnsOf q) m (now (message .entry)) ⌝ }
 {
@@ -29,7 +29,7 @@ pub fn encode(q: u8, m: u8, message: &[u8], word: &mut [u8])
 }
 
 // The message of a word.
-pub fn unencode(q: u8, m: u8, word: &[u8], message: &mut [u8]) -> Outcome
+pub fn unencode(q: u8, m: u16, word: &[u8], message: &mut [u8]) -> Outcome
     requires { ⌜ Readable q (columnsOf q) m (now word) (now message) ⌝ }
     ensures { λ r. ⌜ readOver q (columnsOf q) m (now (word .entry)) (now (message .entry)) ≡ answered r (now (message .exit)) ⌝ }
 {
@@ -41,7 +41,7 @@ pub fn unencode(q: u8, m: u8, word: &[u8], message: &mut [u8]) -> Outcome
 }
 
 // The message that alone fits a broken word.
-pub fn recover(q: u8, m: u8, word: &[u8], message: &mut [u8]) -> Outcome
+pub fn recover(q: u8, m: u16, word: &[u8], message: &mut [u8]) -> Outcome
     requires { ⌜ BrokenOver q (columnsOf q) m (now word) × (length (now message) ≡ size q m) ⌝ }
     ensures { λ r. ⌜ answerOf (reading (fieldOf q .size) (size q m) (wordOf q (columnsOf q) m) (now (word .entry))) (now (message .entry))
         ≡ answered r (now (message .exit)) ⌝ }

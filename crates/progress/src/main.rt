@@ -18,7 +18,7 @@ const MOST_TURNS: u8 = 64 / BUDGET + 1;
 // A number of records that no input reaches, for the same reason.
 const MOST: usize = 1 << 60;
 
-fn left_text(r: u8, at: usize, out: &mut [u8]) -> usize
+fn left_text(r: u16, at: usize, out: &mut [u8]) -> usize
     requires { ⌜ at + 45 ≤ length (now out) ⌝ }
     ensures { λ end. ⌜ end ≤ at + 45 ⌝ }
 {

@@ -21,7 +21,7 @@ use Rattle.session.specs.Arrived.{arrived}
 use Rattle.session.specs.Asked.{asked}
 use Rattle.session.specs.ReferenceModel.{Model, emptyModel, afterArrival}
 use Rattle.session.specs.Claim.{Event, Arrival, Asking, modelFrom, modelAfter, sessionFrom, sessionAfter, Claim}
-use Rattle.session.specs.Replayed.{decoded, replayed}
+use Rattle.session.specs.Replayed.{arrivals, replayed}
 use Rattle.session.proofs.Replays.{replayed-asked}
 use Rattle.session.proofs.Steps.{receivedValue, Match, opened-curve, match-opened, step}
 use Rattle.session.proofs.ModelReadings.{none-fits, one-fits, several-fit, never-two}
@@ -97,9 +97,12 @@ pub demand : (q m : ℕ) → Says (opened q m .outcome) 0 0 → (events : List E
 demand q m accepted events = claim q m accepted events
 
 -- and so of the arrivals that `replay` runs, whose answer is that of the asking after them
-pub replay-demand : (q m : ℕ) → Says (opened q m .outcome) 0 0 → (arrivals slice : List ℕ)
-    → Claim q m (decoded arrivals) × (replayed q m arrivals slice ≡ asked (sessionAfter q m (decoded arrivals)) slice)
-replay-demand q m accepted arrivals slice = (
-  demand q m accepted (decoded arrivals),
-  replayed-asked q m arrivals slice (opened q m) refl (says (opened q m .outcome) Done .0 accepted) (sessionAfter q m (decoded arrivals)) refl,
+pub replay-demand : (q m : ℕ) → Says (opened q m .outcome) 0 0 → (places symbols rounds slice : List ℕ)
+    → let events = arrivals places symbols rounds in
+    Claim q m events × (replayed q m places symbols rounds slice ≡ asked (sessionAfter q m events) slice)
+replay-demand q m accepted places symbols rounds slice = (
+  demand q m accepted (arrivals places symbols rounds),
+  replayed-asked q m places symbols rounds slice (opened q m) refl (says (opened q m .outcome) Done .0 accepted)
+      (sessionAfter q m (arrivals places symbols rounds))
+      refl,
 )

@@ -7,3 +7,4 @@ pub mod Askings
 pub mod Demand
 pub mod Orders
 pub mod Jobs
+pub mod HighNumbers

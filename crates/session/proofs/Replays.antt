@@ -1,9 +1,10 @@
--- A list of arrivals that is read three bytes at a time.
+-- Arrivals that are read off three lists, of places, of symbols and of rounds.
 -- Assumes nothing.
 use mathlib.Core.Bool.{false}
-use mathlib.Core.List.{List, [], _∷_}
-use mathlib.Core.Path.{_≡_, refl, _∙_}
-use Prim.Native.Nat.{ℕ, suc, _+_, _-_, _≤_, _<_}
+use mathlib.Core.List.{List, [], _∷_, map}
+use mathlib.Core.Logic.{_⊎_, inl, inr}
+use mathlib.Core.Path.{_≡_, refl, ap, _∙_}
+use Prim.Native.Nat.{ℕ, _+_, _≤_, _<_}
 use native.Mathlib.Numerals.{add-one}
 use native.Mathlib.Omega.{arith}
 use lib.Dec.{eqb}
@@ -18,41 +19,56 @@ use Rattle.session.specs.declared.Reply.{Reply}
 use Rattle.session.specs.Opened.{opened}
 use Rattle.session.specs.Arrived.{arrived}
 use Rattle.session.specs.Asked.{asked}
-use Rattle.session.specs.Claim.{sessionFrom, sessionAfter}
-use Rattle.session.specs.Replayed.{decoded, replayed}
+use Rattle.session.specs.Claim.{Event, Arrival, sessionFrom, sessionAfter}
+use Rattle.session.specs.Replayed.{arrivals, replayed}
 
--- what is left of the list from `at` on: one more arrival, or none
-module _ (s : Session) (list : List ℕ) (at : ℕ) where
-  pub receive-next : at + 2 < length list → (t : Reply) → t ≡ arrived s (getD list at 0) (getD list (at + 1) 0) (getD list (at + 2) 0)
-      → sessionFrom s (decoded (drop at list)) ≡ sessionFrom (t .session) (decoded (drop (at + 3) list))
-  unfolding sessionFrom decoded
-  receive-next l t e =
-      let two : at + 2 ≡ suc (suc at) = omega arith in
-      let three : at + 3 ≡ suc (suc (suc at)) = omega arith in
-      let first = drop-cons list at 0 (omega arith) in
-      let second = drop-cons list (suc at) 0 (omega arith) in
-      let third = drop-cons list (suc (suc at)) 0 (omega arith) in
-      rw (e, add-one at, two, three, first, second, third)
+-- every list of arrivals is that of its places, symbols and rounds
+pub arrivals-of : (list : List (ℕ × ℕ × ℕ))
+    → arrivals (map (λ a. a .0) list) (map (λ a. a .1) list) (map (λ a. a .2) list) ≡ map (λ a. Arrival (a .0) (a .1) (a .2)) list
+unfolding arrivals
+arrivals-of [] = refl
+arrivals-of (a ∷ list) = ap (λ (events : List Event). Arrival (a .0) (a .1) (a .2) ∷ events) (arrivals-of list)
 
-  short : (rest : List ℕ) → length rest ≤ 2 → sessionFrom s (decoded rest) ≡ s
-  unfolding sessionFrom decoded
-  short [] l = refl
-  short (p ∷ []) l = refl
-  short (p ∷ x ∷ []) l = refl
-  short (p ∷ x ∷ r ∷ rest) l = absurd (omega arith)
+-- what is left of the lists from i on: one more arrival, or none
+module _ (s : Session) (places symbols rounds : List ℕ) (i : ℕ) where
+  pub receive-next : i < length places → i < length symbols → i < length rounds
+      → (t : Reply) → t ≡ arrived s (getD places i 0) (getD symbols i 0) (getD rounds i 0)
+      → sessionFrom s (arrivals (drop i places) (drop i symbols) (drop i rounds))
+      ≡ sessionFrom (t .session) (arrivals (drop (i + 1) places) (drop (i + 1) symbols) (drop (i + 1) rounds))
+  unfolding sessionFrom arrivals
+  receive-next l k j t e =
+      rw (e, add-one i, drop-cons places i 0 l, drop-cons symbols i 0 k, drop-cons rounds i 0 j)
 
-  pub receive-end : length list - at ≤ 2 → sessionFrom s (decoded (drop at list)) ≡ s
-  receive-end l = short (drop at list) (rw (length-drop at list) l)
+-- none are left where one of the lists ends
+pub receive-end : (s : Session) (places symbols rounds : List ℕ) → (i : ℕ)
+    → (length places ≤ i) ⊎ ((length symbols ≤ i) ⊎ (length rounds ≤ i))
+    → sessionFrom s (arrivals (drop i places) (drop i symbols) (drop i rounds)) ≡ s
+unfolding sessionFrom arrivals
+receive-end s places symbols rounds i h = rw (none (drop i places) (drop i symbols) (drop i rounds) (ends h))
+  where
+    none : (ps ss rs : List ℕ) → (length ps ≡ 0) ⊎ ((length ss ≡ 0) ⊎ (length rs ≡ 0)) → arrivals ps ss rs ≡ []
+    none [] ss rs h = refl
+    none (p ∷ ps) [] rs h = refl
+    none (p ∷ ps) (x ∷ ss) [] h = refl
+    none (p ∷ ps) (x ∷ ss) (r ∷ rs) (inl e) = absurd (omega arith)
+    none (p ∷ ps) (x ∷ ss) (r ∷ rs) (inr (inl e)) = absurd (omega arith)
+    none (p ∷ ps) (x ∷ ss) (r ∷ rs) (inr (inr e)) = absurd (omega arith)
+
+    ends : (length places ≤ i) ⊎ ((length symbols ≤ i) ⊎ (length rounds ≤ i))
+        → (length (drop i places) ≡ 0) ⊎ ((length (drop i symbols) ≡ 0) ⊎ (length (drop i rounds) ≡ 0))
+    ends (inl l) = inl (omega (arith, length-drop i places))
+    ends (inr (inl l)) = inr (inl (omega (arith, length-drop i symbols)))
+    ends (inr (inr l)) = inr (inr (omega (arith, length-drop i rounds)))
 
 -- the reply to opening, and the session after the arrivals
-module _ (q m : ℕ) (arrivals slice : List ℕ) (t : Reply) (is : t ≡ opened q m) where
-  pub replayed-asked : t .outcome ≡ Done → (s : Session) → s ≡ sessionFrom (t .session) (decoded arrivals)
-      → replayed q m arrivals slice ≡ asked s slice
+module _ (q m : ℕ) (places symbols rounds slice : List ℕ) (t : Reply) (is : t ≡ opened q m) where
+  pub replayed-asked : t .outcome ≡ Done → (s : Session) → s ≡ sessionFrom (t .session) (arrivals places symbols rounds)
+      → replayed q m places symbols rounds slice ≡ asked s slice
   unfolding replayed
   replayed-asked e s f =
-      not-refused (opened q m .outcome) slice (asked (sessionAfter q m (decoded arrivals)) slice) (rw (← is) e) ∙ rw (f, is)
+      not-refused (opened q m .outcome) slice (asked (sessionAfter q m (arrivals places symbols rounds)) slice) (rw (← is) e) ∙ rw (f, is)
 
-  pub replayed-refused : eqb (number (t .outcome)) 0 ≡ false → replayed q m arrivals slice ≡ answered (t .outcome) slice
+  pub replayed-refused : eqb (number (t .outcome)) 0 ≡ false → replayed q m places symbols rounds slice ≡ answered (t .outcome) slice
   unfolding replayed
   replayed-refused =
-      refused (opened q m .outcome) (t .outcome) slice (asked (sessionAfter q m (decoded arrivals)) slice) (rw is)
+      refused (opened q m .outcome) (t .outcome) slice (asked (sessionAfter q m (arrivals places symbols rounds)) slice) (rw is)

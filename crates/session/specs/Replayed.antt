@@ -6,14 +6,14 @@ use Rattle.session.specs.Opened.{opened}
 use Rattle.session.specs.Asked.{asked}
 use Rattle.session.specs.Claim.{Event, Arrival, sessionAfter}
 
--- the arrivals that a slice lists, three bytes each, the place, the symbol and the round; a rest of one or two bytes is ignored
-unfoldable pub decoded : List ℕ → List Event
-decoded [] = []
-decoded (p ∷ []) = []
-decoded (p ∷ s ∷ []) = []
-decoded (p ∷ s ∷ r ∷ rest) = Arrival p s r ∷ decoded rest
+-- the arrivals of which these are the places, the symbols and the rounds; what one list has more than another is ignored
+unfoldable pub arrivals : List ℕ → List ℕ → List ℕ → List Event
+arrivals (p ∷ places) (s ∷ symbols) (r ∷ rounds) = Arrival p s r ∷ arrivals places symbols rounds
+arrivals [] symbols rounds = []
+arrivals (p ∷ places) [] rounds = []
+arrivals (p ∷ places) (s ∷ symbols) [] = []
 
 -- what asking answers after them; a refused opening ends it
-unfoldable pub replayed : ℕ → ℕ → List ℕ → List ℕ → Answer
-replayed q m arrivals slice =
-    unlessRefused (opened q m .outcome) slice (asked (sessionAfter q m (decoded arrivals)) slice)
+unfoldable pub replayed : ℕ → ℕ → List ℕ → List ℕ → List ℕ → List ℕ → Answer
+replayed q m places symbols rounds slice =
+    unlessRefused (opened q m .outcome) slice (asked (sessionAfter q m (arrivals places symbols rounds)) slice)

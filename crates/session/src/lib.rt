@@ -19,7 +19,7 @@ use job::Opening;
 // two symbols of that round differed, a conflict. Places from n on are never read, nor their rounds.
 pub struct Session {
     pub q: u8,
-    pub m: u8,
+    pub m: u16,
     pub places: [u8; 64],
     pub rounds: [u8; 64],
 }
@@ -31,7 +31,7 @@ pub struct Reply {
 }
 
 // A session that has received nothing.
-fn empty_session(q: u8, m: u8) -> Session
+fn empty_session(q: u8, m: u16) -> Session
     ensures { λ r. ⌜ r ≡ emptySession q m ⌝ }
 {
     Session {
@@ -42,7 +42,7 @@ fn empty_session(q: u8, m: u8) -> Session
     }
 }
 
-pub fn open(q: u8, m: u8) -> Reply
+pub fn open(q: u8, m: u16) -> Reply
     ensures { λ r. ⌜ r ≡ opened q m ⌝ }
 {
     let outcome = code::check::order(q, m as usize);
@@ -136,7 +136,7 @@ impl Session {
     }
 
     // The checks 1, 2, 4, 6 and 7 of an arrival.
-    fn check(self, place: u8, symbol: u8) -> Outcome
+    fn check(self, place: u16, symbol: u8) -> Outcome
         ensures { λ r. ⌜ r ≡ arrivalChecks self place symbol ⌝ }
     {
         let first = code::check::order(self.q, self.m as usize);
@@ -159,7 +159,7 @@ impl Session {
         Outcome::Done
     }
 
-    pub fn arrive(mut self, place: u8, symbol: u8, round: u8) -> Reply
+    pub fn arrive(mut self, place: u16, symbol: u8, round: u8) -> Reply
         ensures { λ r. ⌜ r ≡ arrived self place symbol round ⌝ }
     {
         let checked = self.check(place, symbol);

@@ -22,7 +22,7 @@ pub const RADIUS: usize = 10;
 /// terms of order t + 6, h those of order t + 6 + m.
 const F_TERMS: usize = 11;
 const H_TERMS: usize = 48;
-const H_ORDER: u8 = RADIUS as u8 + 6 + M;
+const H_ORDER: u16 = RADIUS as u16 + 6 + M;
 
 /// An equation of recovery: a place's coefficients, then the symbol there.
 type Row = [u8; K + 1];

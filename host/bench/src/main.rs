@@ -25,7 +25,7 @@ use reference::sample::{self, Shape};
 use timing::Times;
 
 const Q: u8 = 4;
-const M: u8 = 37;
+const M: u16 = 37;
 const K: usize = 32;
 const N: usize = 64;
 const MISSING: u8 = 255;
@@ -37,7 +37,7 @@ const SEED: u64 = 37;
 
 type Message = [u8; K];
 type Word = [u8; N];
-type LibraryCall = fn(u8, u8, &[u8], &mut [u8]) -> Result<(), Refusal>;
+type LibraryCall = fn(u8, u16, &[u8], &mut [u8]) -> Result<(), Refusal>;
 
 const BASELINE_MODE: &str = "blocks-baseline";
 const USAGE: &str = "arguments, one of these:

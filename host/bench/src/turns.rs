@@ -12,7 +12,7 @@ extern "C" {
     /// Opens a job, carries it on with each budget in turn and then with 255.
     fn bench_recover_in_turns(
         q: u8,
-        m: u8,
+        m: u16,
         word: *const u8,
         word_length: usize,
         budgets: *const u8,
@@ -23,7 +23,7 @@ extern "C" {
 }
 
 /// The answer, packed as from C.
-pub fn recover_in_turns(q: u8, m: u8, word: &[u8], budgets: &[u8], message: &mut [u8]) -> u32 {
+pub fn recover_in_turns(q: u8, m: u16, word: &[u8], budgets: &[u8], message: &mut [u8]) -> u32 {
     // Each pointer comes with the length of its slice, none of which overlap.
     unsafe {
         bench_recover_in_turns(
@@ -105,6 +105,7 @@ mod tests {
     use super::*;
     use reference::code;
     use reference::generator::Generator;
+    use reference::outcome::Outcome;
     use reference::sample::{self, Shape};
 
     /// At every order of both curves: words that are whole, broken or damaged,
@@ -122,15 +123,28 @@ mod tests {
                 let (mut ours, mut theirs) = (before.clone(), before);
                 let answer = recover_in_turns(shape.q(), shape.m, &word, &budgets, &mut ours);
                 let outcome = code::recover(shape.q(), shape.m, &word, &mut theirs);
-                let expected = u32::from(outcome.number) * 65536 + u32::from(outcome.second);
                 assert_eq!(
                     answer,
-                    expected,
+                    outcome.packed(),
                     "q {} m {} {word:?} {budgets:?}",
                     shape.q(),
                     shape.m
                 );
                 assert_eq!(ours, theirs);
+            }
+        }
+    }
+
+    /// Also those that end in the eight bits of a good order.
+    #[test]
+    fn orders_from_n_on_are_refused() {
+        for shape in Shape::every() {
+            for m in sample::numbers_too_high(shape.curve) {
+                let word = vec![0; shape.n];
+                let mut message = vec![99; shape.k];
+                let answer = recover_in_turns(shape.q(), m, &word, &[1], &mut message);
+                assert_eq!(answer, Outcome::ORDER_TOO_HIGH.packed());
+                assert_eq!(message, vec![99; shape.k]);
             }
         }
     }

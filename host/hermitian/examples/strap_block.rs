@@ -3,7 +3,7 @@
 use hermitian::{encode, message_length, recover, word_length, Refusal, MISSING};
 
 const Q: u8 = 4;
-const M: u8 = 37;
+const M: u16 = 37;
 
 fn main() -> Result<(), Refusal> {
     let n = word_length(Q).ok_or(Refusal::UnknownCurve)?;

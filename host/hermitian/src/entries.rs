@@ -3,7 +3,7 @@
 /// The shape of all but [`hermitian_mend`]: q, m, the input and its length, the
 /// output and its length. The answer is the refusal number times 65536 plus the
 /// second number.
-pub type Entry = unsafe extern "C" fn(u8, u8, *const u8, usize, *mut u8, usize) -> u32;
+pub type Entry = unsafe extern "C" fn(u8, u16, *const u8, usize, *mut u8, usize) -> u32;
 
 extern "C" {
     /// # Safety
@@ -12,7 +12,7 @@ extern "C" {
     /// beside the length 0; no two of the buffers overlap.
     pub fn hermitian_encode(
         q: u8,
-        m: u8,
+        m: u16,
         message: *const u8,
         message_length: usize,
         word: *mut u8,
@@ -24,7 +24,7 @@ extern "C" {
     /// As for [`hermitian_encode`].
     pub fn hermitian_unencode(
         q: u8,
-        m: u8,
+        m: u16,
         word: *const u8,
         word_length: usize,
         message: *mut u8,
@@ -36,7 +36,7 @@ extern "C" {
     /// As for [`hermitian_encode`].
     pub fn hermitian_recover(
         q: u8,
-        m: u8,
+        m: u16,
         word: *const u8,
         word_length: usize,
         message: *mut u8,
@@ -48,7 +48,7 @@ extern "C" {
     /// As for [`hermitian_encode`].
     pub fn hermitian_mend(
         q: u8,
-        m: u8,
+        m: u16,
         word: *const u8,
         word_length: usize,
         message: *mut u8,

@@ -9,6 +9,7 @@
 //! | 2 | 8 | 0 to 3 | 0 to 7 |
 //! | 4 | 64 | 0 to 15 | 0 to 63 |
 //!
+//! Orders are numbers of 16 bits, and those from n on, up to 65535, are refused.
 //! [`message_length`] gives k. The strap uses q = 4, m = 37, k = 32. Any m + 1
 //! symbols of a word are enough to recover its message; fewer may be. Up to t
 //! wrong symbols of a whole word are mended, 10 for the strap.
@@ -34,6 +35,9 @@
 //! word[7] = MISSING;
 //! let refusal = recover(2, 3, &word, &mut read).unwrap_err();
 //! assert_eq!(refusal, Refusal::SeveralMessagesFit { power: 1 });
+//!
+//! let refusal = recover(2, 256 + 3, &word, &mut read).unwrap_err();
+//! assert_eq!(refusal, Refusal::OrderTooHigh);
 //! # Ok::<(), Refusal>(())
 //! ```
 //!
@@ -58,7 +62,7 @@ pub const MISSING: u8 = 255;
 /// # Errors
 ///
 /// Refusals 1 to 5. A refused call leaves `word` unchanged.
-pub fn encode(q: u8, m: u8, message: &[u8], word: &mut [u8]) -> Result<(), Refusal> {
+pub fn encode(q: u8, m: u16, message: &[u8], word: &mut [u8]) -> Result<(), Refusal> {
     refusal::of_answer(call(entries::hermitian_encode, q, m, message, word))
 }
 
@@ -67,7 +71,7 @@ pub fn encode(q: u8, m: u8, message: &[u8], word: &mut [u8]) -> Result<(), Refus
 /// # Errors
 ///
 /// Refusals 1 to 5 and 9. A refused call leaves `message` unchanged.
-pub fn unencode(q: u8, m: u8, word: &[u8], message: &mut [u8]) -> Result<(), Refusal> {
+pub fn unencode(q: u8, m: u16, word: &[u8], message: &mut [u8]) -> Result<(), Refusal> {
     refusal::of_answer(call(entries::hermitian_unencode, q, m, word, message))
 }
 
@@ -77,7 +81,7 @@ pub fn unencode(q: u8, m: u8, word: &[u8], message: &mut [u8]) -> Result<(), Ref
 /// # Errors
 ///
 /// Refusals 1 to 5, 9 and 10. A refused call leaves `message` unchanged.
-pub fn recover(q: u8, m: u8, word: &[u8], message: &mut [u8]) -> Result<(), Refusal> {
+pub fn recover(q: u8, m: u16, word: &[u8], message: &mut [u8]) -> Result<(), Refusal> {
     refusal::of_answer(call(entries::hermitian_recover, q, m, word, message))
 }
 
@@ -92,7 +96,7 @@ pub fn word_length(q: u8) -> Option<usize> {
 
 /// k, the length of a message: the number of terms x^i·y^j with j below q and
 /// weight q·i + (q + 1)·j up to m. `None` if q or m would be refused.
-pub fn message_length(q: u8, m: u8) -> Option<usize> {
+pub fn message_length(q: u8, m: u16) -> Option<usize> {
     let order = usize::from(m);
     if order >= word_length(q)? {
         return None;
@@ -106,7 +110,7 @@ pub fn message_length(q: u8, m: u8) -> Option<usize> {
 }
 
 /// Lends both slices to an entry for the time of the call.
-fn call(entry: entries::Entry, q: u8, m: u8, input: &[u8], output: &mut [u8]) -> u32 {
+fn call(entry: entries::Entry, q: u8, m: u16, input: &[u8], output: &mut [u8]) -> u32 {
     // Safety: a slice's pointer is never null and is good for its length, and
     // a borrowed slice doesn't overlap with a mutably borrowed one.
     unsafe {
@@ -135,6 +139,23 @@ mod tests {
         assert_eq!(message_length(2, 8), None);
         assert_eq!(message_length(4, 64), None);
         assert_eq!(message_length(3, 0), None);
+        for m in [255, 256, 256 + 3, 65_280, u16::MAX] {
+            assert_eq!([2, 4].map(|q| message_length(q, m)), [None, None]);
+        }
+    }
+
+    /// 256 + 37 isn't taken for 37, which is its low byte.
+    #[test]
+    fn orders_above_255_are_refused() {
+        for m in [256, 256 + 37, 65_280 + 37, u16::MAX] {
+            let mut word = [9; 64];
+            let refused = Err(Refusal::OrderTooHigh);
+            assert_eq!(encode(4, m, &[0; 32], &mut word), refused);
+            assert_eq!(unencode(4, m, &[0; 64], &mut word[..32]), refused);
+            assert_eq!(recover(4, m, &[0; 64], &mut word[..32]), refused);
+            assert_eq!(word, [9; 64]);
+            assert_eq!(encode(3, m, &[], &mut []), Err(Refusal::UnknownCurve));
+        }
     }
 
     #[test]

@@ -54,7 +54,7 @@ impl Mended {
 /// # Errors
 ///
 /// Refusals 1 to 4, 11 and 12.
-pub fn mend(q: u8, m: u8, word: &[u8]) -> Result<Mended, Refusal> {
+pub fn mend(q: u8, m: u16, word: &[u8]) -> Result<Mended, Refusal> {
     // A q or m without lengths is refused before the lengths are looked at.
     let n = word_length(q).unwrap_or(0);
     let k = message_length(q, m).unwrap_or(0);
@@ -76,7 +76,7 @@ pub fn mend(q: u8, m: u8, word: &[u8]) -> Result<Mended, Refusal> {
 /// Refusals 1 to 5, 11 and 12. A refused call leaves all slices unchanged.
 pub fn mend_into(
     q: u8,
-    m: u8,
+    m: u16,
     word: &[u8],
     message: &mut [u8],
     mended: &mut [u8],
@@ -131,7 +131,9 @@ mod tests {
     fn every_refusal_is_named() {
         let mut word = [0; 64];
         assert_eq!(mend(3, 0, &word), Err(Refusal::UnknownCurve));
-        assert_eq!(mend(4, 64, &word), Err(Refusal::OrderTooHigh));
+        for m in [64, 255, 256, 256 + 37, u16::MAX] {
+            assert_eq!(mend(4, m, &word), Err(Refusal::OrderTooHigh));
+        }
         assert_eq!(mend(4, 58, &word), Err(Refusal::OrderTooHighToMend));
         assert_eq!(mend(4, 57, &[]), Err(Refusal::WrongInputLength));
         word[9] = 1;

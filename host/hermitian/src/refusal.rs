@@ -11,18 +11,18 @@ use std::fmt;
 pub enum Refusal {
     /// 1: q is neither 2 nor 4.
     UnknownCurve,
-    /// 2: m is n or more.
+    /// 2: m is n or more, up to 65535.
     OrderTooHigh,
     /// 3: the message isn't k long, or the word isn't n long.
     WrongInputLength,
     /// 4: an input byte is no symbol; `index` is the lowest such index.
-    NotASymbol { index: u8 },
+    NotASymbol { index: u16 },
     /// 5: a slice to be written hasn't exactly the length of the result.
     WrongOutputLength,
     /// 9: no message has these symbols in its word.
     NoMessageFits,
     /// 10: exactly Q to the power `power` messages fit, where Q = q·q.
-    SeveralMessagesFit { power: u8 },
+    SeveralMessagesFit { power: u16 },
     /// 11: no codeword differs from the word in at most t places.
     NoCodewordNear,
     /// 12: nothing is mended at this order, since n - m - 1 is less than g.
@@ -75,7 +75,7 @@ impl Error for Refusal {}
 
 /// Reads the one number that a call returns from C.
 pub(crate) fn of_answer(answer: u32) -> Result<(), Refusal> {
-    let second = (answer & 0xFFFF) as u8;
+    let second = (answer & 0xFFFF) as u16;
     let refusal = match answer >> 16 {
         0 if answer == 0 => return Ok(()),
         1 => Refusal::UnknownCurve,
@@ -130,6 +130,8 @@ mod tests {
             (327_680, Refusal::WrongOutputLength),
             (589_824, Refusal::NoMessageFits),
             (655_392, Refusal::SeveralMessagesFit { power: 32 }),
+            (327_679, Refusal::NotASymbol { index: 65_535 }),
+            (720_895, Refusal::SeveralMessagesFit { power: 65_535 }),
             (720_896, Refusal::NoCodewordNear),
             (786_432, Refusal::OrderTooHighToMend),
         ];
@@ -141,9 +143,9 @@ mod tests {
 
     #[test]
     fn answers_outside_the_rules_are_not_taken_for_others() {
-        let too_large_second = [65_537, (4 << 16) + 256, (11 << 16) + 1];
+        let with_second = [65_537, (2 << 16) + 293, (9 << 16) + 256, (11 << 16) + 1];
         let no_refusal = [1, 6 << 16, 13 << 16, u32::MAX];
-        for answer in [too_large_second.as_slice(), &no_refusal].concat() {
+        for answer in [with_second.as_slice(), &no_refusal].concat() {
             let refusal = Refusal::NotInTheRules { answer };
             assert_eq!(of_answer(answer), Err(refusal));
         }

@@ -5,7 +5,7 @@ use crate::outcome::Outcome;
 
 pub(crate) const RECORD_LENGTH: usize = 64;
 pub(crate) const CURVE_NUMBER: u8 = 4;
-pub(crate) const ORDER: u8 = 37;
+pub(crate) const ORDER: u16 = 37;
 pub(crate) const MESSAGE_LENGTH: usize = 32;
 
 /// One line for each record of 64 bytes, and one for a shorter last part.

@@ -7,15 +7,17 @@
 //! |---|---|
 //! | 0 | the op |
 //! | 1 | q |
-//! | 2 | m |
-//! | 3 | the length of the input, 0 to 72; of `y` the next place, any number |
+//! | 2 | the low byte of m |
+//! | 3 | the length of the input, 0 to 72; of `y` the low byte of the next place |
 //! | 4 | the length of the output slice, 0 to 72 |
-//! | 5 | the first operand, the place of an arrival, the length of the mended word's slice, or the budget of a job's call |
-//! | 6 | the second operand, the symbol of an arrival, or the length of the marks' slice; of `y` its flags: 1 if a contradiction was met, 2 if the equations were complete |
-//! | 7 | the round of an arrival; of `y` the kind of work bytes |
+//! | 5 | the first operand, the low byte of an arrival's place, the length of the mended word's slice, the budget of a job's call, or the first budget of `t` |
+//! | 6 | the second operand, the symbol of an arrival, the length of the marks' slice, or the second budget of `t`; of `y` its flags: 1 if a contradiction was met, 2 if the equations were complete |
+//! | 7 | the round of an arrival, or the third budget of `t`; of `y` the kind of work bytes |
 //! | 8 to 79 | the input, of `y` 64 bytes, then zeros |
 //! | 80 to 151 | the output slice before the call, of `m` the longest one, then zeros; of `y` any 72 bytes, which start with that slice |
-//! | 152 to 159 | zeros |
+//! | 152 | the high byte of m |
+//! | 153 | the high byte of an arrival's place or of the next place of `y` |
+//! | 154 to 159 | zeros |
 //!
 //! The ops are these letters:
 //!
@@ -56,9 +58,21 @@
 //!   the output slice. It has q, m, the input as its places, the next place,
 //!   its flags, the bytes at offset 80 on as the message found and as its word, and
 //!   work bytes: all 0 for kind 0, only the diagonal set from the bytes at offset
-//!   80 on for kind 1, and every byte set from those in turn for kind 2. Current session and job stay as they are. The
-//!   results of such calls are left open, but the slice is written only with a
-//!   message; the line ends with `kept` if that is so.
+//!   80 on for kind 1, and every byte set from those in turn for kind 2. Current
+//!   session and job stay as they are. The results of such calls are left open,
+//!   but the slice is written only with a message; the line ends with `kept` if
+//!   that is so.
+//! - `p`: a session of its own is opened with q and m, gets the arrivals that the
+//!   input lists, four bytes each, and is asked with the output slice (module
+//!   `replay`). Current session and job stay as they are, and the line ends as
+//!   with `e`.
+//! - `t`: recovery in turns, from q, m and the input as a broken word into the
+//!   output slice: a job of its own is carried on with each of the three budgets
+//!   and then until it is finished. That gives what recovery gives. Current
+//!   session and job stay as they are, and the line ends as with `e`.
+//!
+//! Until request T-08 orders and places had 8 bits, and the two high bytes were
+//! among the zeros: a record from before it reads as it did.
 //!
 //! A line starts with the op and the two numbers of the answer (0 and 0 for `s`
 //! and `y`), and its parts are parted by one space each.
@@ -68,6 +82,7 @@ use crate::code;
 use crate::job::{Job, Reply};
 use crate::mend;
 use crate::outcome::Outcome;
+use crate::replay;
 use crate::session::{Session, PLACE_COUNT};
 
 pub const RECORD_LENGTH: usize = 160;
@@ -77,13 +92,18 @@ pub const SLICE_ROOM: usize = 72;
 
 const INPUT_OFFSET: usize = 8;
 const OUTPUT_OFFSET: usize = INPUT_OFFSET + SLICE_ROOM;
+const HIGH_BYTE_OF_ORDER: usize = OUTPUT_OFFSET + SLICE_ROOM;
+const HIGH_BYTE_OF_PLACE: usize = HIGH_BYTE_OF_ORDER + 1;
 
 /// What a record says. Slices longer than `SLICE_ROOM` are cut.
 #[derive(Clone, Debug, Default, PartialEq, Eq)]
 pub struct Case {
     pub op: u8,
     pub q: u8,
-    pub m: u8,
+    pub m: u16,
+    /// Of `a` and `y` only: the place of the arrival, the next place.
+    pub place: u16,
+    /// Not of `a`, whose record has the place there.
     pub a: u8,
     pub b: u8,
     pub round: u8,
@@ -92,13 +112,11 @@ pub struct Case {
     /// The bytes after the output slice that a longer slice of `m` begins with,
     /// or those that `y` has there.
     pub beyond: Vec<u8>,
-    /// Of `y` only, whose record has it where others have the input's length.
-    pub next_place: u8,
 }
 
 impl Case {
     /// A case of `o`.
-    pub fn of_opening(q: u8, m: u8) -> Case {
+    pub fn of_opening(q: u8, m: u16) -> Case {
         Case {
             op: b'o',
             q,
@@ -120,10 +138,10 @@ impl Case {
     }
 
     /// A case of `a`.
-    pub fn of_arrival(place: u8, symbol: u8, round: u8) -> Case {
+    pub fn of_arrival(place: u16, symbol: u8, round: u8) -> Case {
         Case {
             op: b'a',
-            a: place,
+            place,
             b: symbol,
             round,
             ..Case::default()
@@ -133,7 +151,7 @@ impl Case {
     /// A case of `m`. The slices for message, mended word and marks have these
     /// lengths, and their bytes before the call count up from 128, so that none
     /// of them is a symbol or a mark.
-    pub fn of_mending(q: u8, m: u8, word: &[u8], lengths: [usize; 3]) -> Case {
+    pub fn of_mending(q: u8, m: u16, word: &[u8], lengths: [usize; 3]) -> Case {
         let [message, mended, marks] = lengths.map(|length| length.min(SLICE_ROOM));
         let longest = message.max(mended).max(marks);
         let area: Vec<u8> = (128..).take(longest).collect();
@@ -164,14 +182,19 @@ impl Case {
         let input = &self.input[..self.input.len().min(SLICE_ROOM)];
         let output_length = self.output.len().min(SLICE_ROOM);
         let area = self.first_of_area(SLICE_ROOM);
-        let mut record = [0; RECORD_LENGTH];
-        let byte_3 = match self.op {
-            b'y' => self.next_place,
-            _ => input.len() as u8,
+        let [order, order_high] = self.m.to_le_bytes();
+        let [place, place_high] = self.place.to_le_bytes();
+        let (byte_3, byte_5) = match self.op {
+            b'a' => (input.len() as u8, place),
+            b'y' => (place, self.a),
+            _ => (input.len() as u8, self.a),
         };
-        let head = [self.op, self.q, self.m, byte_3, output_length as u8];
-        record[..5].copy_from_slice(&head);
-        record[5..8].copy_from_slice(&[self.a, self.b, self.round]);
+        let mut record = [0; RECORD_LENGTH];
+        record[..3].copy_from_slice(&[self.op, self.q, order]);
+        record[3..5].copy_from_slice(&[byte_3, output_length as u8]);
+        record[5..8].copy_from_slice(&[byte_5, self.b, self.round]);
+        record[HIGH_BYTE_OF_ORDER] = order_high;
+        record[HIGH_BYTE_OF_PLACE] = place_high;
         record[INPUT_OFFSET..][..input.len()].copy_from_slice(input);
         record[OUTPUT_OFFSET..][..SLICE_ROOM].copy_from_slice(&area);
         record
@@ -185,9 +208,11 @@ impl Case {
     }
 
     pub fn from_record(record: &[u8; RECORD_LENGTH]) -> Case {
-        let (input_length, next_place) = match record[0] {
-            b'y' => (PLACE_COUNT, record[3]),
-            _ => (slice_length(record[3]), 0),
+        let place = |low: u8| u16::from_le_bytes([low, record[HIGH_BYTE_OF_PLACE]]);
+        let (input_length, place, a) = match record[0] {
+            b'a' => (slice_length(record[3]), place(record[5]), 0),
+            b'y' => (PLACE_COUNT, place(record[3]), record[5]),
+            _ => (slice_length(record[3]), 0, record[5]),
         };
         let output_length = slice_length(record[4]);
         let area_length = match record[0] {
@@ -198,12 +223,12 @@ impl Case {
         let case = Case {
             op: record[0],
             q: record[1],
-            m: record[2],
-            a: record[5],
+            m: u16::from_le_bytes([record[2], record[HIGH_BYTE_OF_ORDER]]),
+            place,
+            a,
             b: record[6],
             round: record[7],
             input: record[INPUT_OFFSET..][..input_length].to_vec(),
-            next_place,
             ..Case::default()
         };
         case.with_area(&record[OUTPUT_OFFSET..][..area_length], output_length)
@@ -259,7 +284,8 @@ impl Runner {
         let outcome = match case.op {
             b'e' => code::encode(case.q, case.m, &case.input, &mut output),
             b'u' => code::unencode(case.q, case.m, &case.input, &mut output),
-            b'r' => code::recover(case.q, case.m, &case.input, &mut output),
+            b'r' | b't' => code::recover(case.q, case.m, &case.input, &mut output),
+            b'p' => replay::replay(case.q, case.m, &case.input, &mut output),
             _ => self.session.ask(&mut output),
         };
         (outcome, hexadecimal(&output))
@@ -269,7 +295,7 @@ impl Runner {
         let (session, outcome) = match case.op {
             b'o' => Session::open(case.q, case.m),
             b's' => (raw_session(case), Outcome::ACCEPTED),
-            _ => self.session.arrive(case.a, case.b, case.round),
+            _ => self.session.arrive(case.place, case.b, case.round),
         };
         self.session = session;
         let Session { q, m, .. } = session;
@@ -430,23 +456,32 @@ mod tests {
 
     #[test]
     fn the_layout_of_a_record_of_a_job_that_no_opening_gave() {
-        for next_place in [0, 7, 64, 72, 73, 255] {
+        let places = [
+            (0, 0, 0),
+            (64, 64, 0),
+            (73, 73, 0),
+            (255, 255, 0),
+            (264, 8, 1),
+            (65_535, 255, 255),
+        ];
+        for (next_place, low, high) in places {
             let case = Case {
                 op: b'y',
                 q: 2,
                 m: 3,
+                place: next_place,
                 a: 9,
                 b: 1,
                 round: 2,
                 input: vec![5; 64],
-                next_place,
                 ..Case::default()
             };
             let case = case.with_area(&[6; 72], 3);
             let mut expected = [0; 160];
-            expected[..8].copy_from_slice(&[121, 2, 3, next_place, 3, 9, 1, 2]);
+            expected[..8].copy_from_slice(&[121, 2, 3, low, 3, 9, 1, 2]);
             expected[8..72].fill(5);
             expected[80..152].fill(6);
+            expected[153] = high;
             assert_eq!(case.to_record(), expected);
             assert_eq!(Case::from_record(&expected), case);
             // The slice is cut to 72, the input is always 64 bytes.
@@ -456,8 +491,38 @@ mod tests {
     }
 
     #[test]
+    fn the_high_byte_of_an_order_is_at_offset_152() {
+        for op in *b"eurmosjJpty" {
+            let mut record = [0; 160];
+            record[..3].copy_from_slice(&[op, 4, 37]);
+            for (high, m) in [(0, 37), (1, 293), (255, 65_317)] {
+                record[152] = high;
+                let case = Case::from_record(&record);
+                assert_eq!(case.m, m);
+                assert_eq!(case.to_record(), record);
+            }
+        }
+    }
+
+    #[test]
+    fn the_high_byte_of_a_place_is_at_offset_153() {
+        let mut record = [0; 160];
+        record[..8].copy_from_slice(&[b'a', 0, 0, 0, 0, 7, 2, 3]);
+        for (high, place) in [(0, 7), (1, 263), (255, 65_287)] {
+            record[153] = high;
+            let case = Case::of_arrival(place, 2, 3);
+            assert_eq!(Case::from_record(&record), case);
+            assert_eq!(case.to_record(), record);
+        }
+        // An op without a place has its first operand at offset 5.
+        record[0] = b'+';
+        let case = Case::from_record(&record);
+        assert_eq!((case.place, case.a), (0, 7));
+    }
+
+    #[test]
     fn any_record_is_read_and_run() {
-        for op in [255, b'm', b'j', b'J', b'c'] {
+        for op in [255, b'm', b'j', b'J', b'c', b'a', b'p', b't'] {
             let case = Case::from_record(&[op; 160]);
             assert_eq!((case.input.len(), case.output.len()), (72, 72));
             assert_eq!(lines(&[case]).len(), 1);
@@ -570,6 +635,96 @@ mod tests {
         let arrived = format!("a 1 0 3 9 {held}\n");
         assert_eq!(lines(&cases), [opened, set, arrived]);
     }
+
+    /// The session as opened, and the same with places that a look at their low
+    /// byte alone would take.
+    #[test]
+    fn lines_of_orders_and_places_above_255() {
+        let (missing, no_round) = ("ff".repeat(64), "00".repeat(64));
+        let mut stored = Session::OF_REFUSED_OPENING;
+        stored.m = 259;
+        let cases = [
+            Case::of_opening(2, 259),
+            Case::of_opening(2, 3),
+            Case::of_arrival(256, 1, 0),
+            Case::of_arrival(65_287, 4, 0),
+            Case::of_raw_session(&stored),
+            Case::of_arrival(0, 1, 0),
+            session_case(b'k', 0, 0, &[9, 9, 9]),
+            session_case(b'J', 0, 0, &[]),
+        ];
+        let nothing = format!("{missing} {no_round}");
+        let expected = [
+            format!("o 2 0 2 0 {nothing}\n"),
+            format!("o 0 0 2 3 {nothing}\n"),
+            format!("a 6 0 2 3 {nothing}\n"),
+            format!("a 6 0 2 3 {nothing}\n"),
+            format!("s 0 0 2 259 {nothing}\n"),
+            format!("a 2 0 2 259 {nothing}\n"),
+            "k 2 0 090909\n".to_string(),
+            format!("J 2 0 2 0 {missing}\n"),
+        ];
+        assert_eq!(lines(&cases), expected);
+    }
+
+    /// Value H of paper 01, its zeros first. The session stays that of a refused
+    /// opening.
+    #[test]
+    fn lines_of_whole_sessions() {
+        let line = |m, input: &[u8]| {
+            let whole = Case {
+                op: b'p',
+                q: 2,
+                m,
+                input: input.to_vec(),
+                output: vec![9; 3],
+                ..Case::default()
+            };
+            let after = lines(&[whole, session_case(b'k', 0, 0, &[9])]);
+            assert_eq!(after[1], "k 10 1 09\n");
+            after[0].clone()
+        };
+        let arrivals = [
+            0, 0, 0, 0, 4, 0, 0, 0, 7, 0, 0, 0, 1, 0, 1, 0, 1, 1, 2, 9, 1, 0, 2,
+        ];
+        assert_eq!(line(3, &arrivals[..12]), "p 10 1 090909\n");
+        assert_eq!(line(3, &arrivals[..16]), "p 0 0 000101\n");
+        // A 2 at place 257, and a rest of three bytes.
+        assert_eq!(line(3, &arrivals), "p 0 0 000101\n");
+        assert_eq!(line(259, &arrivals), "p 2 0 090909\n");
+    }
+
+    /// Value H again, and the zeros alone. The job stays that of a refused opening.
+    #[test]
+    fn lines_of_recovery_in_turns() {
+        let line = |m, word: [u8; 8], budgets: [u8; 3]| {
+            let [a, b, round] = budgets;
+            let turns = Case {
+                op: b't',
+                q: 2,
+                m,
+                a,
+                b,
+                round,
+                input: word.to_vec(),
+                output: vec![9; 3],
+                ..Case::default()
+            };
+            let after = lines(&[turns, job_call(1, &[9])]);
+            assert_eq!(after[1], "c 10 1 0 finished 09\n");
+            after[0].clone()
+        };
+        let (value_h, zeros) = (
+            [0, 1, 255, 255, 0, 255, 255, 0],
+            [0, 255, 255, 255, 0, 255, 255, 0],
+        );
+        for budgets in [[0, 0, 0], [1, 2, 0], [255, 255, 255]] {
+            assert_eq!(line(3, value_h, budgets), "t 0 0 000101\n");
+            assert_eq!(line(3, zeros, budgets), "t 10 1 090909\n");
+            assert_eq!(line(259, zeros, budgets), "t 2 0 090909\n");
+        }
+    }
+
     fn job_call(budget: u8, output: &[u8]) -> Case {
         session_case(b'c', budget, 0, output)
     }

@@ -13,7 +13,7 @@ pub fn curve(q: u8) -> Result<Curve, Outcome> {
 }
 
 /// Refusals 1 and 2.
-pub fn curve_and_order(q: u8, m: u8) -> Result<Curve, Outcome> {
+pub fn curve_and_order(q: u8, m: u16) -> Result<Curve, Outcome> {
     let curve = curve(q)?;
     if usize::from(m) >= curve.point_count() {
         return Err(Outcome::ORDER_TOO_HIGH);
@@ -22,7 +22,7 @@ pub fn curve_and_order(q: u8, m: u8) -> Result<Curve, Outcome> {
 }
 
 /// Refusal 12, or else t.
-pub fn radius(curve: Curve, m: u8) -> Result<usize, Outcome> {
+pub fn radius(curve: Curve, m: u16) -> Result<usize, Outcome> {
     curve.radius(m).ok_or(Outcome::ORDER_TOO_HIGH_TO_MEND)
 }
 
@@ -46,7 +46,7 @@ pub fn symbols_or_missing(field: Field, values: &[u8]) -> Result<(), Outcome> {
 
 /// Lengths are checked before values, so an index fits in the second number.
 fn no_value(values: &[u8], is_bad: impl Fn(u8) -> bool) -> Result<(), Outcome> {
-    match (0..=u8::MAX).zip(values).find(|(_, &value)| is_bad(value)) {
+    match (0..=u16::MAX).zip(values).find(|(_, &value)| is_bad(value)) {
         Some((index, _)) => Err(Outcome::value_too_high(index)),
         None => Ok(()),
     }
@@ -67,7 +67,7 @@ mod tests {
     #[test]
     fn orders_up_to_n_minus_1_are_accepted() {
         for curve in Curve::BOTH {
-            for m in 0..=255 {
+            for m in 0..=u16::MAX {
                 let expected = if usize::from(m) < curve.point_count() {
                     Ok(curve)
                 } else {
@@ -81,7 +81,9 @@ mod tests {
     #[test]
     fn an_unknown_curve_is_refused_before_the_order() {
         for q in (0..=255).filter(|q| ![2, 4].contains(q)) {
-            assert_eq!(curve_and_order(q, 255), Err(Outcome::UNKNOWN_CURVE));
+            for m in [0, 255, 256, 256 + 37, u16::MAX] {
+                assert_eq!(curve_and_order(q, m), Err(Outcome::UNKNOWN_CURVE));
+            }
         }
     }
 

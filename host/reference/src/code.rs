@@ -9,21 +9,21 @@ use crate::outcome::Outcome;
 pub use crate::checks::MISSING;
 
 /// Writes the word of a message.
-pub fn encode(q: u8, m: u8, message: &[u8], word: &mut [u8]) -> Outcome {
+pub fn encode(q: u8, m: u16, message: &[u8], word: &mut [u8]) -> Outcome {
     Outcome::from(try_encode(q, m, message, word))
 }
 
 /// Writes the message of a whole word.
-pub fn unencode(q: u8, m: u8, word: &[u8], message: &mut [u8]) -> Outcome {
+pub fn unencode(q: u8, m: u16, word: &[u8], message: &mut [u8]) -> Outcome {
     Outcome::from(try_decode(q, m, word, message, checks::symbols))
 }
 
 /// Writes the only message that fits a broken word.
-pub fn recover(q: u8, m: u8, word: &[u8], message: &mut [u8]) -> Outcome {
+pub fn recover(q: u8, m: u16, word: &[u8], message: &mut [u8]) -> Outcome {
     Outcome::from(try_decode(q, m, word, message, checks::symbols_or_missing))
 }
 
-fn try_encode(q: u8, m: u8, message: &[u8], word: &mut [u8]) -> Result<(), Outcome> {
+fn try_encode(q: u8, m: u16, message: &[u8], word: &mut [u8]) -> Result<(), Outcome> {
     let code = Code::of_order(checks::curve_and_order(q, m)?, m);
     checks::input_length(message, code.terms.len())?;
     checks::symbols(code.field, message)?;
@@ -36,7 +36,7 @@ fn try_encode(q: u8, m: u8, message: &[u8], word: &mut [u8]) -> Result<(), Outco
 /// nothing else: a whole word is a broken word with nothing missing.
 fn try_decode(
     q: u8,
-    m: u8,
+    m: u16,
     word: &[u8],
     message: &mut [u8],
     check_values: fn(Field, &[u8]) -> Result<(), Outcome>,
@@ -57,7 +57,7 @@ pub(crate) struct Code {
 }
 
 impl Code {
-    pub(crate) fn of_order(curve: Curve, m: u8) -> Code {
+    pub(crate) fn of_order(curve: Curve, m: u16) -> Code {
         Code {
             field: curve.field(),
             points: curve.points(),
@@ -93,7 +93,7 @@ impl Code {
             Solutions::One(message) => Ok(message),
             // There are at most 58 terms.
             Solutions::Several { free_unknowns } => {
-                Err(Outcome::several_messages_fit(free_unknowns as u8))
+                Err(Outcome::several_messages_fit(free_unknowns as u16))
             }
         }
     }
@@ -123,13 +123,13 @@ mod tests {
     use crate::generator::Generator;
     use crate::sample::{self, Shape};
 
-    type Call = fn(u8, u8, &[u8], &mut [u8]) -> Outcome;
+    type Call = fn(u8, u16, &[u8], &mut [u8]) -> Outcome;
 
     const BAD_CURVES: [u8; 8] = [0, 1, 3, 5, 6, 8, 16, 255];
 
     /// The result of a call, or its refusal after a look that nothing was
     /// written.
-    fn run(call: Call, q: u8, m: u8, input: &[u8], length: usize) -> Result<Vec<u8>, Outcome> {
+    fn run(call: Call, q: u8, m: u16, input: &[u8], length: usize) -> Result<Vec<u8>, Outcome> {
         let before: Vec<u8> = (0..length).map(|index| 100 + index as u8).collect();
         let mut output = before.clone();
         match call(q, m, input, &mut output) {
@@ -200,7 +200,7 @@ mod tests {
     #[test]
     fn nothing_arrived_at_every_order() {
         for shape in Shape::every() {
-            let expected = Outcome::several_messages_fit(shape.k as u8);
+            let expected = Outcome::several_messages_fit(shape.k as u16);
             let nothing = vec![MISSING; shape.n];
             assert_eq!(decode(recover, shape, &nothing), Err(expected));
         }
@@ -220,12 +220,13 @@ mod tests {
 
     fn refusals_in_order(call: Call, shape: Shape, input: usize, output: usize) {
         let (q, m, bad) = (shape.q(), shape.m, shape.field_size);
-        let beyond = shape.n as u8;
         for curve_number in BAD_CURVES {
-            let outcome = run(call, curve_number, 255, &vec![bad; input + 1], output + 1);
-            assert_eq!(outcome, Err(Outcome::UNKNOWN_CURVE));
+            for order in [255, 256, 256 + m, u16::MAX] {
+                let outcome = run(call, curve_number, order, &vec![bad; input + 1], output + 1);
+                assert_eq!(outcome, Err(Outcome::UNKNOWN_CURVE));
+            }
         }
-        for order in beyond..=255 {
+        for order in (shape.n as u16..=255).chain(sample::numbers_too_high(shape.curve)) {
             let outcome = run(call, q, order, &vec![bad; input + 1], output + 1);
             assert_eq!(outcome, Err(Outcome::ORDER_TOO_HIGH));
         }
@@ -237,7 +238,7 @@ mod tests {
             let mut values = vec![0; input];
             values[index..].fill(bad);
             let outcome = run(call, q, m, &values, output + 1);
-            assert_eq!(outcome, Err(Outcome::value_too_high(index as u8)));
+            assert_eq!(outcome, Err(Outcome::value_too_high(index as u16)));
         }
         for length in [0, output - 1, output + 1, 72, 155] {
             let outcome = run(call, q, m, &vec![0; input], length);
@@ -267,7 +268,7 @@ mod tests {
             for value in shape.field_size..=255 {
                 let mut word = vec![0; shape.n];
                 word[shape.n - 1] = value;
-                let refused = Err(Outcome::value_too_high(shape.n as u8 - 1));
+                let refused = Err(Outcome::value_too_high(shape.n as u16 - 1));
                 assert_eq!(decode(unencode, shape, &word), refused);
                 if value == MISSING {
                     assert_ne!(decode(recover, shape, &word), refused);
@@ -276,7 +277,7 @@ mod tests {
                 }
                 let mut message = vec![0; shape.k];
                 message[shape.k - 1] = value;
-                let refused = Err(Outcome::value_too_high(shape.k as u8 - 1));
+                let refused = Err(Outcome::value_too_high(shape.k as u16 - 1));
                 let outcome = run(encode, shape.q(), shape.m, &message, shape.n);
                 assert_eq!(outcome, refused);
             }
@@ -441,9 +442,9 @@ mod tests {
     #[test]
     fn k_symbols_need_not_be_enough() {
         let mut generator = Generator::with_seed(26);
-        for shape in Shape::every().filter(|shape| shape.m >= shape.q()) {
+        for shape in Shape::every().filter(|shape| shape.columns_of_order() > 0) {
             let word = sample::codeword(&mut generator, shape);
-            let columns = usize::from(shape.m / shape.q());
+            let columns = shape.columns_of_order();
             let broken = sample::with_known_columns(&mut generator, shape, &word, columns);
             let refusal = decode(recover, shape, &broken).expect_err("several fit");
             assert_eq!(refusal.number, 10);
@@ -456,7 +457,7 @@ mod tests {
     fn any_set_of_whole_columns_gives_the_message() {
         let mut generator = Generator::with_seed(27);
         for shape in Shape::every() {
-            let enough = usize::from(shape.m / shape.q()) + 1;
+            let enough = shape.columns_of_order() + 1;
             for columns in enough..=usize::from(shape.field_size) {
                 let message = sample::message(&mut generator, shape);
                 let word = shape.word_of(&message);

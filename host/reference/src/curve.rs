@@ -62,8 +62,8 @@ impl Curve {
     }
 
     /// The orders that are accepted: 0 to n - 1.
-    pub fn orders(self) -> impl Iterator<Item = u8> {
-        (0..=u8::MAX).take(self.point_count)
+    pub fn orders(self) -> impl Iterator<Item = u16> {
+        (0..=u16::MAX).take(self.point_count)
     }
 
     /// g, the genus.
@@ -73,7 +73,7 @@ impl Curve {
 
     /// t of request T-03, the most wrong symbols that are mended: n - m - 1 - g
     /// halved and rounded down. There is none if n - m - 1 is less than g.
-    pub fn radius(self, m: u8) -> Option<usize> {
+    pub fn radius(self, m: u16) -> Option<usize> {
         let rest = self
             .point_count
             .checked_sub(usize::from(m) + 1 + self.genus)?;
@@ -96,7 +96,7 @@ impl Curve {
     }
 
     /// The terms of weight up to the order m, by ascending weight.
-    pub fn terms(self, m: u8) -> Vec<Term> {
+    pub fn terms(self, m: u16) -> Vec<Term> {
         let order = usize::from(m);
         let mut terms: Vec<Term> = (0..usize::from(self.q))
             .flat_map(|y_power| (0..=order).map(move |x_power| Term { x_power, y_power }))
@@ -239,7 +239,7 @@ mod tests {
         ] {
             assert_eq!(Curve::Q_IS_4.radius(m), Some(radius));
         }
-        assert!((58..=255).all(|m| Curve::Q_IS_4.radius(m).is_none()));
+        assert!((58..=u16::MAX).all(|m| Curve::Q_IS_4.radius(m).is_none()));
     }
 
     #[test]

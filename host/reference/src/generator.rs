@@ -26,6 +26,10 @@ impl Generator {
         self.next() as u8
     }
 
+    pub fn sixteen_bits(&mut self) -> u16 {
+        self.next() as u16
+    }
+
     pub fn bytes(&mut self, length: usize) -> Vec<u8> {
         (0..length).map(|_| self.byte()).collect()
     }

@@ -13,7 +13,7 @@ use crate::session::PLACE_COUNT;
 #[derive(Clone, Copy, Debug, PartialEq, Eq)]
 pub struct Job {
     curve: Curve,
-    m: u8,
+    m: u16,
     /// Those from n on are missing.
     places: [u8; PLACE_COUNT],
     brought_in: u8,
@@ -28,7 +28,7 @@ pub enum Reply {
     NoneFits,
     /// Still working, and exactly Q to the power r messages fit the symbols
     /// brought in so far. Here r may be 0.
-    Leaves(u8),
+    Leaves(u16),
     /// All arrived symbols are brought in: what recovery in one go says.
     Finished(Outcome),
 }
@@ -65,14 +65,14 @@ impl Job {
     };
 
     /// From what recovery takes, without the slice.
-    pub fn open(q: u8, m: u8, word: &[u8]) -> (Job, Outcome) {
+    pub fn open(q: u8, m: u16, word: &[u8]) -> (Job, Outcome) {
         match Job::try_open(q, m, word) {
             Ok(job) => (job, Outcome::ACCEPTED),
             Err(refusal) => (Job::OF_REFUSED_OPENING, refusal),
         }
     }
 
-    fn try_open(q: u8, m: u8, word: &[u8]) -> Result<Job, Outcome> {
+    fn try_open(q: u8, m: u16, word: &[u8]) -> Result<Job, Outcome> {
         let curve = checks::curve_and_order(q, m)?;
         checks::input_length(word, curve.point_count())?;
         checks::symbols_or_missing(curve.field(), word)?;
@@ -90,7 +90,7 @@ impl Job {
         self.curve.q()
     }
 
-    pub fn m(&self) -> u8 {
+    pub fn m(&self) -> u16 {
         self.m
     }
 
@@ -154,13 +154,13 @@ mod tests {
 
     const BUDGETS: [u8; 8] = [0, 1, 2, 3, 7, 20, 64, 255];
 
-    fn opened(q: u8, m: u8, word: &[u8]) -> Job {
+    fn opened(q: u8, m: u16, word: &[u8]) -> Job {
         let (job, outcome) = Job::open(q, m, word);
         assert_eq!(outcome, Outcome::ACCEPTED);
         job
     }
 
-    fn several(r: u8) -> Reply {
+    fn several(r: u16) -> Reply {
         Reply::Finished(Outcome::several_messages_fit(r))
     }
 
@@ -262,7 +262,7 @@ mod tests {
     fn nothing_arrived_is_finished_by_any_call() {
         for shape in Shape::every() {
             let job = opened(shape.q(), shape.m, &vec![MISSING; shape.n]);
-            let expected = several(shape.k as u8);
+            let expected = several(shape.k as u16);
             for budget in BUDGETS {
                 assert_replies(job, &[], &[(budget, 0, expected), (1, 0, expected)]);
             }
@@ -277,7 +277,7 @@ mod tests {
         assert_replies(job, &[], &[(0, 0, several(1)), (255, 0, several(1))]);
     }
 
-    fn assert_refused_opening(q: u8, m: u8, word: &[u8], expected: Outcome) {
+    fn assert_refused_opening(q: u8, m: u16, word: &[u8], expected: Outcome) {
         assert_eq!(Job::open(q, m, word), (Job::OF_REFUSED_OPENING, expected));
         // Recovery's own refusal, which comes before a look at its slice.
         assert_eq!(code::recover(q, m, word, &mut [0; 99]), expected);
@@ -290,9 +290,11 @@ mod tests {
             let (q, m, n) = (shape.q(), shape.m, shape.n);
             let bad = vec![shape.field_size; n + 1];
             for curve_number in [0, 1, 3, 5, 8, 255] {
-                assert_refused_opening(curve_number, 255, &bad, Outcome::UNKNOWN_CURVE);
+                for order in [255, 256 + m, u16::MAX] {
+                    assert_refused_opening(curve_number, order, &bad, Outcome::UNKNOWN_CURVE);
+                }
             }
-            for order in [n as u8, 64, 255] {
+            for order in sample::numbers_too_high(shape.curve) {
                 assert_refused_opening(q, order, &bad, Outcome::ORDER_TOO_HIGH);
             }
             for length in [0, 1, n - 1, n + 1] {
@@ -303,7 +305,7 @@ mod tests {
                 for index in 0..n {
                     let mut word = vec![MISSING; n];
                     word[index..].fill(value);
-                    let expected = Outcome::value_too_high(index as u8);
+                    let expected = Outcome::value_too_high(index as u16);
                     assert_refused_opening(q, m, &word, expected);
                 }
             }

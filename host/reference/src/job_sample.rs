@@ -29,7 +29,7 @@ const ONE_BY_ONE: &[u8] = &[1];
 
 /// The orders of the larger curve at which whole words are brought in by one
 /// symbol a call.
-const ORDERS_ONE_BY_ONE: [u8; 3] = [11, 37, 63];
+const ORDERS_ONE_BY_ONE: [u16; 3] = [11, 37, 63];
 
 /// The cases of all orders, then refused openings that no order below n has,
 /// sessions whose symbols arrive one by one, and at last jobs that no opening gave.
@@ -74,7 +74,7 @@ struct Builder {
 /// Openings and calls.
 impl Builder {
     /// Gives the job that the opening hands back.
-    fn open(&mut self, q: u8, m: u8, word: &[u8]) -> Job {
+    fn open(&mut self, q: u8, m: u16, word: &[u8]) -> Job {
         self.cases.push(Case {
             op: b'j',
             q,
@@ -183,7 +183,7 @@ impl Builder {
             self.broken_word(shape, any_enough),
             self.broken_word(shape, m + 1),
             self.broken_word(shape, k - 1),
-            self.whole_columns(shape, m / usize::from(shape.q())),
+            self.whole_columns(shape, shape.columns_of_order()),
             self.damaged_at(shape, n, n - 1),
             self.damaged_at(shape, more_than_sure, 0),
             self.damaged_anywhere(shape, any_enough),
@@ -260,7 +260,7 @@ mod tests {
     }
 
     /// Each call's q and m, its budget and what it says.
-    fn calls() -> Vec<((u8, u8), u8, Answer)> {
+    fn calls() -> Vec<((u8, u16), u8, Answer)> {
         let mut runner = Runner::default();
         let mut calls = Vec::new();
         for case in job_cases() {

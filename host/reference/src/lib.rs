@@ -28,6 +28,8 @@ pub mod outcome;
 pub mod page;
 pub mod progress;
 pub mod record_sample;
+pub mod replay;
 pub mod sample;
 pub mod session;
+pub mod sixteen_bit_sample;
 pub mod worked_session;

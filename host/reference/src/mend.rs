@@ -26,7 +26,7 @@ type Codeword = (Vec<u8>, Vec<u8>);
 /// Beside the outcome stands the count of changes, 0 if the call is refused.
 pub fn mend(
     q: u8,
-    m: u8,
+    m: u16,
     word: &[u8],
     message: &mut [u8],
     mended: &mut [u8],
@@ -40,7 +40,7 @@ pub fn mend(
 
 fn try_mend(
     q: u8,
-    m: u8,
+    m: u16,
     word: &[u8],
     message: &mut [u8],
     mended: &mut [u8],
@@ -82,7 +82,7 @@ struct Mender {
 
 impl Mender {
     /// Refusal 12 if the order is too high for it.
-    fn of_order(curve: Curve, m: u8) -> Result<Mender, Outcome> {
+    fn of_order(curve: Curve, m: u16) -> Result<Mender, Outcome> {
         Ok(Mender {
             shape: Shape::of(curve, m),
             radius: checks::radius(curve, m)?,
@@ -130,7 +130,7 @@ impl Mender {
     fn values_of_f(&self, word: &[u8]) -> Option<Vec<u8>> {
         let Shape { curve, m, .. } = self.shape;
         // The order of h stays below n.
-        let s = (self.radius + curve.genus()) as u8;
+        let s = (self.radius + curve.genus()) as u16;
         let of_f = Code::of_order(curve, s);
         let of_h = Code::of_order(curve, m + s);
         let field = curve.field();
@@ -164,7 +164,7 @@ mod tests {
 
     /// The result of a call with slices of the lengths for message, word and
     /// marks, or its refusal after a look that nothing was written.
-    fn run(q: u8, m: u8, input: &[u8], lengths: [usize; 3]) -> Result<Mended, Outcome> {
+    fn run(q: u8, m: u16, input: &[u8], lengths: [usize; 3]) -> Result<Mended, Outcome> {
         let before = lengths.map(|length| (100..).take(length).collect::<Vec<u8>>());
         let [mut message, mut word, mut marks] = before.clone();
         let (outcome, count) = mend(q, m, input, &mut message, &mut word, &mut marks);
@@ -388,10 +388,12 @@ mod tests {
             let (q, m, n, bad) = (shape.q(), shape.m, shape.n, shape.field_size);
             let too_long = [shape.k + 1, n + 1, n + 1];
             for curve_number in (0..=255).filter(|number| ![2, 4].contains(number)) {
-                let outcome = run(curve_number, 255, &vec![bad; n + 1], too_long);
-                assert_eq!(outcome, Err(Outcome::UNKNOWN_CURVE));
+                for order in [255, 256 + m, u16::MAX] {
+                    let outcome = run(curve_number, order, &vec![bad; n + 1], too_long);
+                    assert_eq!(outcome, Err(Outcome::UNKNOWN_CURVE));
+                }
             }
-            for order in n as u8..=255 {
+            for order in (n as u16..=255).chain(sample::numbers_too_high(shape.curve)) {
                 let outcome = run(q, order, &vec![bad; n + 1], too_long);
                 assert_eq!(outcome, Err(Outcome::ORDER_TOO_HIGH));
             }
@@ -417,7 +419,7 @@ mod tests {
                 let mut word = vec![0; n];
                 word[index..].fill(value);
                 let outcome = run(q, m, &word, too_long);
-                assert_eq!(outcome, Err(Outcome::value_too_high(index as u8)));
+                assert_eq!(outcome, Err(Outcome::value_too_high(index as u16)));
             }
         }
         // t + 1 wrong symbols, which 5 is refused before.

@@ -47,7 +47,7 @@ struct Builder {
 }
 
 impl Builder {
-    fn call(&mut self, q: u8, m: u8, word: &[u8], lengths: [usize; 3]) {
+    fn call(&mut self, q: u8, m: u16, word: &[u8], lengths: [usize; 3]) {
         self.cases.push(Case::of_mending(q, m, word, lengths));
     }
 
@@ -168,7 +168,7 @@ mod tests {
     /// always meets 12.
     #[test]
     fn every_answer_of_every_order_occurs() {
-        let answers: BTreeSet<(u8, u8, u8, u8)> = mend_cases()
+        let answers: BTreeSet<(u8, u16, u8, u8)> = mend_cases()
             .iter()
             .map(|case| {
                 let [number, _, count] = numbers(case);

@@ -4,7 +4,7 @@
 #[derive(Clone, Copy, Debug, PartialEq, Eq)]
 pub struct Outcome {
     pub number: u8,
-    pub second: u8,
+    pub second: u16,
 }
 
 impl Outcome {
@@ -25,7 +25,7 @@ impl Outcome {
     }
 
     /// Refusal 4, with the lowest index of a value that is Q or more.
-    pub const fn value_too_high(index: u8) -> Outcome {
+    pub const fn value_too_high(index: u16) -> Outcome {
         Outcome {
             number: 4,
             second: index,
@@ -33,7 +33,7 @@ impl Outcome {
     }
 
     /// Refusal 10, with r where exactly Q to the power r messages fit.
-    pub const fn several_messages_fit(r: u8) -> Outcome {
+    pub const fn several_messages_fit(r: u16) -> Outcome {
         Outcome {
             number: 10,
             second: r,
@@ -91,9 +91,9 @@ mod tests {
         assert_eq!(Outcome::several_messages_fit(32).packed(), 655_392);
         let largest = Outcome {
             number: 255,
-            second: 255,
+            second: 65_535,
         };
-        assert_eq!(largest.packed(), 16_711_935);
+        assert_eq!(largest.packed(), 16_777_215);
     }
 
     #[test]

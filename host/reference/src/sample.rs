@@ -10,7 +10,7 @@ use crate::generator::Generator;
 pub const BAD_CURVES: [u8; 6] = [0, 1, 3, 5, 8, 255];
 
 /// Curve numbers, each with an order of n or more.
-pub const BAD_ORDERS: [(u8, u8); 9] = [
+pub const BAD_ORDERS: [(u8, u16); 9] = [
     (2, 8),
     (2, 9),
     (2, 63),
@@ -22,6 +22,20 @@ pub const BAD_ORDERS: [(u8, u8); 9] = [
     (4, 255),
 ];
 
+/// Orders or places of n or more: n itself, some about the limits of 8 and of 16
+/// bits, and some whose low byte is below n, among them all with the high byte 1.
+pub fn numbers_too_high(curve: Curve) -> Vec<u16> {
+    let n = curve.point_count() as u16;
+    let limits = [n, n + 1, 64, 255, 0x7FFF, 0x8000, u16::MAX];
+    let next = (0..n).map(|low| 0x0100 + low);
+    let farther = [0x0207, 0x0803, 0x1025, 0x1234].into_iter();
+    let last = (0..n).step_by(7).map(|low| 0xFF00 + low);
+    let mut numbers: Vec<u16> = next.chain(farther).chain(last).chain(limits).collect();
+    numbers.sort_unstable();
+    numbers.dedup();
+    numbers
+}
+
 /// Few, so that the same round comes up again at a place.
 pub const ROUNDS: [u8; 4] = [0, 1, 2, 255];
 
@@ -29,14 +43,14 @@ pub const ROUNDS: [u8; 4] = [0, 1, 2, 255];
 #[derive(Clone, Copy, Debug)]
 pub struct Shape {
     pub curve: Curve,
-    pub m: u8,
+    pub m: u16,
     pub n: usize,
     pub k: usize,
     pub field_size: u8,
 }
 
 impl Shape {
-    pub fn of(curve: Curve, m: u8) -> Shape {
+    pub fn of(curve: Curve, m: u16) -> Shape {
         Shape {
             curve,
             m,
@@ -63,6 +77,12 @@ impl Shape {
 
     pub fn q(self) -> u8 {
         self.curve.q()
+    }
+
+    /// m / q: the product of x - a over so many columns a has order m or less, and
+    /// over one column more it hasn't.
+    pub fn columns_of_order(self) -> usize {
+        usize::from(self.m) / usize::from(self.q())
     }
 
     /// Any order below n gets its word, so the outcome needs no look.
@@ -153,7 +173,7 @@ pub fn with_wrong(generator: &mut Generator, shape: Shape, word: &[u8], count: u
 pub fn neighbour(generator: &mut Generator, shape: Shape, codeword: &[u8]) -> Vec<u8> {
     let field = shape.curve.field();
     let mut columns = generator.permutation(usize::from(shape.field_size));
-    columns.truncate(usize::from(shape.m / shape.q()));
+    columns.truncate(shape.columns_of_order());
     let points = shape.curve.points();
     let places = points.iter().zip(codeword);
     places
@@ -291,7 +311,7 @@ mod tests {
             let word = codeword(&mut generator, shape);
             let other = neighbour(&mut generator, shape, &word);
             let agreeing = word.iter().zip(&other).filter(|(a, b)| a == b).count();
-            assert_eq!(agreeing, usize::from(shape.m - shape.m % shape.q()));
+            assert_eq!(agreeing, shape.columns_of_order() * usize::from(shape.q()));
             let mut message = vec![0; shape.k];
             let outcome = code::unencode(shape.q(), shape.m, &other, &mut message);
             assert_eq!(outcome, Outcome::ACCEPTED);
@@ -301,6 +321,20 @@ mod tests {
             assert_eq!(left, 1);
             assert_eq!(on_the_way(&word, &other, 0), word);
         }
+    }
+
+    #[test]
+    fn the_numbers_that_are_too_high_for_the_small_curve() {
+        let small = numbers_too_high(Curve::Q_IS_2);
+        let limits = [8, 9, 64, 255];
+        let next = [256, 257, 258, 259, 260, 261, 262, 263];
+        let farther = [519, 2051, 4133, 4660, 32_767, 32_768];
+        let last = [65_280, 65_287, 65_535];
+        let expected = [limits.as_slice(), &next, &farther, &last].concat();
+        assert_eq!(small, expected);
+        let large = numbers_too_high(Curve::Q_IS_4);
+        assert_eq!(large.len(), 3 + 64 + 6 + 11);
+        assert!(large.iter().all(|&number| number >= 64));
     }
 
     #[test]

@@ -18,7 +18,7 @@ pub const CONFLICT: u8 = 254;
 #[derive(Clone, Copy, Debug, PartialEq, Eq)]
 pub struct Session {
     pub q: u8,
-    pub m: u8,
+    pub m: u16,
     pub places: [u8; PLACE_COUNT],
     /// The highest round received at each place (request T-04: heard there).
     pub rounds: [u8; PLACE_COUNT],
@@ -28,7 +28,7 @@ impl Session {
     /// What a refused opening hands back.
     pub const OF_REFUSED_OPENING: Session = Session::with_all_missing(2, 0);
 
-    const fn with_all_missing(q: u8, m: u8) -> Session {
+    const fn with_all_missing(q: u8, m: u16) -> Session {
         Session {
             q,
             m,
@@ -37,7 +37,7 @@ impl Session {
         }
     }
 
-    pub fn open(q: u8, m: u8) -> (Session, Outcome) {
+    pub fn open(q: u8, m: u16) -> (Session, Outcome) {
         match checks::curve_and_order(q, m) {
             Ok(_) => (Session::with_all_missing(q, m), Outcome::ACCEPTED),
             Err(refusal) => (Session::OF_REFUSED_OPENING, refusal),
@@ -46,7 +46,7 @@ impl Session {
 
     /// Hands the session back with the symbol and its round stored or the place
     /// marked as a conflict, or unchanged.
-    pub fn arrive(self, place: u8, symbol: u8, round: u8) -> (Session, Outcome) {
+    pub fn arrive(self, place: u16, symbol: u8, round: u8) -> (Session, Outcome) {
         match self.check_arrival(place, symbol) {
             Ok(()) => (self.merged(place, symbol, round), Outcome::ACCEPTED),
             Err(refusal) => (self, refusal),
@@ -70,7 +70,7 @@ impl Session {
         }
     }
 
-    fn check_arrival(&self, place: u8, symbol: u8) -> Result<(), Outcome> {
+    fn check_arrival(&self, place: u16, symbol: u8) -> Result<(), Outcome> {
         let curve = checks::curve_and_order(self.q, self.m)?;
         checks::symbols_or_missing(curve.field(), &self.received_word(curve))?;
         if usize::from(place) >= curve.point_count() {
@@ -85,7 +85,7 @@ impl Session {
     /// A missing place takes any symbol, and any other place a symbol of a
     /// higher round. Else only a symbol of the same round counts: the place is a
     /// conflict if it holds anything else.
-    fn merged(mut self, place: u8, symbol: u8, round: u8) -> Session {
+    fn merged(mut self, place: u16, symbol: u8, round: u8) -> Session {
         let index = usize::from(place);
         let (held, highest) = (self.places[index], self.rounds[index]);
         if held == MISSING || round > highest {
@@ -113,14 +113,14 @@ mod tests {
     use crate::job::Reply;
     use crate::sample::{self, Shape};
 
-    fn opened(q: u8, m: u8) -> Session {
+    fn opened(q: u8, m: u16) -> Session {
         let (session, outcome) = Session::open(q, m);
         assert_eq!(outcome, Outcome::ACCEPTED);
         session
     }
 
     /// The same value and round at every place.
-    fn with_one_value(q: u8, m: u8, value: u8, round: u8) -> Session {
+    fn with_one_value(q: u8, m: u16, value: u8, round: u8) -> Session {
         Session {
             q,
             m,
@@ -129,7 +129,7 @@ mod tests {
         }
     }
 
-    fn refused_arrival(session: Session, place: u8, symbol: u8) -> Outcome {
+    fn refused_arrival(session: Session, place: u16, symbol: u8) -> Outcome {
         let (after, outcome) = session.arrive(place, symbol, 255);
         assert_ne!(outcome, Outcome::ACCEPTED);
         assert_eq!(after, session);
@@ -137,14 +137,14 @@ mod tests {
     }
 
     /// Arrivals of round 0.
-    fn after_arrivals(session: Session, arrivals: &[(u8, u8)]) -> Session {
+    fn after_arrivals(session: Session, arrivals: &[(u16, u8)]) -> Session {
         let in_round_0 = |&(place, symbol)| (place, symbol, 0);
-        let arrivals: Vec<(u8, u8, u8)> = arrivals.iter().map(in_round_0).collect();
+        let arrivals: Vec<(u16, u8, u8)> = arrivals.iter().map(in_round_0).collect();
         after_rounds(session, &arrivals)
     }
 
     /// Arrivals of a place, a symbol and a round.
-    fn after_rounds(session: Session, arrivals: &[(u8, u8, u8)]) -> Session {
+    fn after_rounds(session: Session, arrivals: &[(u16, u8, u8)]) -> Session {
         arrivals
             .iter()
             .fold(session, |session, &(place, symbol, round)| {
@@ -161,7 +161,7 @@ mod tests {
     #[test]
     fn opening_marks_all_64_places_missing() {
         for q in 0..=255 {
-            for m in 0..=255 {
+            for m in (0..=320).chain([0x0503, 0xFF00, 0xFF25, u16::MAX]) {
                 let (session, outcome) = Session::open(q, m);
                 match (q, m) {
                     (2, 0..=7) | (4, 0..=63) => {
@@ -216,12 +216,19 @@ mod tests {
         let mut session = with_one_value(3, 64, 253, 0);
         assert_eq!(refused_arrival(session, 64, 16), Outcome::UNKNOWN_CURVE);
         session.q = 4;
-        assert_eq!(refused_arrival(session, 64, 16), Outcome::ORDER_TOO_HIGH);
+        for m in [64, 255, 256, 256 + 37, u16::MAX] {
+            session.m = m;
+            assert_eq!(refused_arrival(session, 64, 16), Outcome::ORDER_TOO_HIGH);
+        }
         session.m = 63;
         let bad_value = Outcome::value_too_high(0);
         assert_eq!(refused_arrival(session, 64, 16), bad_value);
+        assert_eq!(refused_arrival(session, 256, 16), bad_value);
         session.places = [1; 64];
-        assert_eq!(refused_arrival(session, 64, 16), Outcome::PLACE_TOO_HIGH);
+        for place in [64, 255, 256, 256 + 63, u16::MAX] {
+            let refused = refused_arrival(session, place, 16);
+            assert_eq!(refused, Outcome::PLACE_TOO_HIGH);
+        }
         assert_eq!(refused_arrival(session, 63, 16), Outcome::SYMBOL_TOO_HIGH);
         assert_eq!(refused_arrival(session, 63, 255), Outcome::SYMBOL_TOO_HIGH);
         assert_eq!(after_arrivals(session, &[(63, 1)]), session);
@@ -302,9 +309,9 @@ mod tests {
             let mut session = opened(shape.q(), shape.m);
             let places = generator.permutation(shape.n);
             for (index, &place) in places.iter().enumerate() {
-                let right = (place as u8, word[place]);
+                let right = (place as u16, word[place]);
                 let another = sample::another_symbol(&mut generator, shape, word[place]);
-                let wrong = (place as u8, another);
+                let wrong = (place as u16, another);
                 let arrivals: &[_] = match (index <= usize::from(shape.m), index % 2) {
                     (true, _) => &[right],
                     (false, 0) => &[wrong, right],
@@ -323,8 +330,8 @@ mod tests {
         let mut generator = Generator::with_seed(34);
         for _ in 0..2_000 {
             let mut up_to = |highest| generator.byte_from(0, highest);
-            let arrival = |_| (up_to(3), up_to(3), up_to(2));
-            let arrivals: Vec<(u8, u8, u8)> = (0..12).map(arrival).collect();
+            let arrival = |_| (u16::from(up_to(3)), up_to(3), up_to(2));
+            let arrivals: Vec<(u16, u8, u8)> = (0..12).map(arrival).collect();
             let order = generator.permutation(arrivals.len());
             let reordered: Vec<_> = order.iter().map(|&index| arrivals[index]).collect();
             let end = after_rounds(opened(2, 3), &arrivals);
@@ -344,7 +351,10 @@ mod tests {
         };
         assert_eq!(ask(&session, 99), Outcome::UNKNOWN_CURVE);
         session.q = 2;
-        assert_eq!(ask(&session, 99), Outcome::ORDER_TOO_HIGH);
+        for m in [8, 255, 256, 256 + 7, u16::MAX] {
+            session.m = m;
+            assert_eq!(ask(&session, 99), Outcome::ORDER_TOO_HIGH);
+        }
         session.m = 7;
         session.places[..5].copy_from_slice(&[0, 255, 1, 2, 3]);
         assert_eq!(ask(&session, 99), Outcome::value_too_high(5));
@@ -369,7 +379,10 @@ mod tests {
         let mut session = with_one_value(255, 8, 4, 255);
         assert_eq!(refused_job(&session), Outcome::UNKNOWN_CURVE);
         session.q = 2;
-        assert_eq!(refused_job(&session), Outcome::ORDER_TOO_HIGH);
+        for m in [8, 255, 256, 256 + 7, u16::MAX] {
+            session.m = m;
+            assert_eq!(refused_job(&session), Outcome::ORDER_TOO_HIGH);
+        }
         session.m = 7;
         session.places[..5].copy_from_slice(&[0, 255, 1, 254, 3]);
         assert_eq!(refused_job(&session), Outcome::value_too_high(5));
@@ -404,7 +417,7 @@ mod tests {
                 let is_right = generator.below(20) > 0;
                 let symbol = if is_right { word[place] } else { another };
                 let round = generator.byte_from(0, 2);
-                session = after_rounds(session, &[(place as u8, symbol, round)]);
+                session = after_rounds(session, &[(place as u16, symbol, round)]);
             }
             let mut asked = vec![99; shape.k];
             let expected = Reply::Finished(session.ask(&mut asked));
@@ -428,7 +441,7 @@ mod tests {
         let mut message = [0; 3];
         assert_eq!(full.ask(&mut message), Outcome::ACCEPTED);
         assert_eq!(message, [0, 1, 1]);
-        for place in 8..=255 {
+        for place in 8..=u16::MAX {
             assert_eq!(refused_arrival(full, place, 0), Outcome::PLACE_TOO_HIGH);
         }
     }
@@ -443,12 +456,12 @@ mod tests {
             rounds.fill_with(|| generator.byte());
             let session = Session {
                 q: [2, 4, 0, 3][turn % 4],
-                m: generator.byte(),
+                m: generator.sixteen_bits(),
                 places,
                 rounds,
             };
-            let (place, symbol, round) = (generator.byte(), generator.byte(), generator.byte());
-            let (after, outcome) = session.arrive(place, symbol, round);
+            let [symbol, round] = [(); 2].map(|()| generator.byte());
+            let (after, outcome) = session.arrive(generator.sixteen_bits(), symbol, round);
             assert!(outcome == Outcome::ACCEPTED || after == session);
             let mut message = generator.bytes(turn % 72);
             session.ask(&mut message);
@@ -465,7 +478,7 @@ mod tests {
 
     impl Model {
         /// Whether the arrival is accepted.
-        fn arrive(&mut self, place: u8, symbol: u8, round: u8) -> bool {
+        fn arrive(&mut self, place: u16, symbol: u8, round: u8) -> bool {
             let Some(accepted) = self.accepted.get_mut(usize::from(place)) else {
                 return false;
             };
@@ -522,8 +535,8 @@ mod tests {
                 arbitrary
             };
             let round = generator.byte_from(0, 2);
-            let (after, outcome) = session.arrive(place as u8, symbol, round);
-            let accepted = model.arrive(place as u8, symbol, round);
+            let (after, outcome) = session.arrive(place as u16, symbol, round);
+            let accepted = model.arrive(place as u16, symbol, round);
             assert_eq!(outcome == Outcome::ACCEPTED, accepted);
             session = after;
             compare_asking_with_model(&session, &model, &words, shape);

@@ -4,12 +4,12 @@
 use crate::outcome::Outcome;
 
 /// A place, a symbol and a round.
-pub type Arrival = (u8, u8, u8);
+pub type Arrival = (u16, u8, u8);
 
 /// A session of order `m`, and what it is answered when asked after the
 /// arrivals: a message, or a refusal.
 pub struct WorkedSession {
-    pub m: u8,
+    pub m: u16,
     pub arrivals: Vec<Arrival>,
     pub answer: Result<Vec<u8>, Outcome>,
 }
@@ -19,7 +19,7 @@ const ZEROS: [Arrival; 5] = [(0, 0, 0), (4, 0, 0), (7, 0, 0), (7, 0, 0), (5, 4, 
 const ONE: [Arrival; 1] = [(1, 1, 0)];
 
 /// Two different symbols of round 3, a conflict, and the first again.
-const fn conflict(place: u8) -> [Arrival; 3] {
+const fn conflict(place: u16) -> [Arrival; 3] {
     [(place, 1, 3), (place, 2, 3), (place, 1, 3)]
 }
 

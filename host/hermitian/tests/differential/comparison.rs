@@ -63,7 +63,7 @@ impl Entry {
 pub struct Call {
     pub entry: Entry,
     pub q: u8,
-    pub m: u8,
+    pub m: u16,
     pub input: Vec<u8>,
     pub output_lengths: Vec<usize>,
 }

@@ -77,26 +77,37 @@ fn every_small(generator: &mut Generator, entry: Entry, base: u32) -> Tally {
     tally
 }
 
-/// Every curve number with every order, by every entry, with lengths that fit
-/// some curve.
+/// Every curve number with every order of 8 bits, and every order of 16 bits with
+/// both curves and with a number that names none.
 pub fn every_curve_number_and_order(generator: &mut Generator) -> Tally {
     let mut tally = Tally::new();
     for q in 0..=255 {
         for m in 0..=255 {
-            for entry in Entry::ALL {
-                let mut length = |_| [8, 32, 64][generator.below(3)];
-                let call = Call {
-                    entry,
-                    q,
-                    m,
-                    input: vec![0; length(0)],
-                    output_lengths: (0..entry.output_count()).map(length).collect(),
-                };
-                compare(&call, generator, &mut tally);
-            }
+            every_entry(q, m, generator, &mut tally);
+        }
+    }
+    for q in [2, 3, 4] {
+        for m in 256..=u16::MAX {
+            every_entry(q, m, generator, &mut tally);
         }
     }
     tally
+}
+
+/// With lengths that fit some curve. Those of the strap are right if the order's
+/// low byte is 37.
+fn every_entry(q: u8, m: u16, generator: &mut Generator, tally: &mut Tally) {
+    for entry in Entry::ALL {
+        let mut length = |_| [8, 32, 64][generator.below(3)];
+        let call = Call {
+            entry,
+            q,
+            m,
+            input: vec![0; length(0)],
+            output_lengths: (0..entry.output_count()).map(length).collect(),
+        };
+        compare(&call, generator, tally);
+    }
 }
 
 /// Every byte at an arbitrary index, at every order, by every entry.
@@ -137,7 +148,7 @@ fn faulty_call(entry: Entry, shape: Shape, generator: &mut Generator) -> Call {
         call.q = generator.byte();
     }
     if generator.below(8) == 0 {
-        call.m = generator.byte();
+        call.m = arbitrary_order(shape, generator);
     }
     if generator.below(5) == 0 {
         let length = wrong_length(input_length, generator);
@@ -152,6 +163,26 @@ fn faulty_call(entry: Entry, shape: Shape, generator: &mut Generator) -> Call {
         }
     }
     call
+}
+
+/// Mostly one of n or more, near the limits of 8 and of 16 bits, or with the low byte
+/// of a good one: of the shape's own, for which the rest of the call is made, or of
+/// any other.
+fn arbitrary_order(shape: Shape, generator: &mut Generator) -> u16 {
+    let too_high = sample::numbers_too_high(shape.curve);
+    let any = generator.sixteen_bits();
+    let choices = [
+        64,
+        255,
+        256,
+        256 + shape.m,
+        u16::MAX,
+        any - any % 256 + shape.m,
+        too_high[generator.below(too_high.len())],
+        any % 256,
+        any,
+    ];
+    choices[generator.below(choices.len())]
 }
 
 /// Mostly near the right length or near a limit of a byte.

@@ -23,7 +23,7 @@ impl Tally {
         }
     }
 
-    pub fn count(&mut self, entry: Entry, q: u8, m: u8, number: u8) {
+    pub fn count(&mut self, entry: Entry, q: u8, m: u16, number: u8) {
         self.answers[entry as usize][usize::from(number)] += 1;
         if number == 0 {
             let curve = usize::from(q == 4);
@@ -51,7 +51,7 @@ impl Tally {
         self.answers[entry as usize].iter().sum()
     }
 
-    pub fn accepted_at(&self, entry: Entry, q: u8, m: u8) -> u64 {
+    pub fn accepted_at(&self, entry: Entry, q: u8, m: u16) -> u64 {
         self.accepted[entry as usize][usize::from(q == 4)][usize::from(m)]
     }
 

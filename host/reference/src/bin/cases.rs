@@ -10,6 +10,7 @@ use reference::job_sample::job_cases;
 use reference::mend_sample::mend_cases;
 use reference::sample::{self, Shape, BAD_CURVES, BAD_ORDERS, ROUNDS};
 use reference::session::{Session, CONFLICT, PLACE_COUNT};
+use reference::sixteen_bit_sample::sixteen_bit_cases;
 use reference::worked_session::worked_sessions;
 use std::process::ExitCode;
 
@@ -23,7 +24,15 @@ fn main() -> ExitCode {
     file_pair::write_to_arguments("cases CASE_FILE EXPECTED_FILE", &records, &expected)
 }
 
+/// Those from before request T-08 come first: that they and their lines stay as they
+/// were shows that calls with numbers of 8 bits give what they gave.
 fn all_cases() -> Vec<Case> {
+    let mut cases = eight_bit_cases();
+    cases.extend(sixteen_bit_cases());
+    cases
+}
+
+fn eight_bit_cases() -> Vec<Case> {
     let mut builder = Builder {
         generator: Generator::with_seed(SEED),
         cases: Vec::new(),
@@ -103,7 +112,7 @@ impl Builder {
 impl Builder {
     /// The slice to be written holds arbitrary bytes before the call, so that a
     /// refusal that writes is seen.
-    fn code_case(&mut self, op: u8, q: u8, m: u8, input: Vec<u8>, output_length: usize) {
+    fn code_case(&mut self, op: u8, q: u8, m: u16, input: Vec<u8>, output_length: usize) {
         let output = self.generator.bytes(output_length);
         self.cases.push(Case {
             op,
@@ -187,7 +196,7 @@ impl Builder {
 
     /// Whole columns: m / q of them are never enough, one more always is.
     fn recover_columns(&mut self, shape: Shape) {
-        let columns = usize::from(shape.m / shape.q());
+        let columns = shape.columns_of_order();
         let word = sample::codeword(&mut self.generator, shape);
         for known in [columns, columns + 1] {
             let broken = sample::with_known_columns(&mut self.generator, shape, &word, known);
@@ -255,7 +264,7 @@ fn slice_lengths(op: u8, shape: Shape) -> (usize, usize) {
 
 /// Cases of sessions.
 impl Builder {
-    fn open(&mut self, q: u8, m: u8) {
+    fn open(&mut self, q: u8, m: u16) {
         self.cases.push(Case::of_opening(q, m));
     }
 
@@ -264,7 +273,7 @@ impl Builder {
     }
 
     /// A session with these places and arbitrary rounds, also at missing ones.
-    fn set(&mut self, q: u8, m: u8, places: &[u8]) {
+    fn set(&mut self, q: u8, m: u16, places: &[u8]) {
         let session = Session {
             q,
             m,
@@ -275,7 +284,7 @@ impl Builder {
     }
 
     fn arrive_in_round(&mut self, round: u8, place: usize, symbol: u8) {
-        let place = place as u8;
+        let place = place as u16;
         self.cases.push(Case::of_arrival(place, symbol, round));
     }
 
@@ -576,7 +585,7 @@ impl Builder {
     }
 
     /// Stored q and m that no opening accepts, also with bad stored values.
-    fn bad_stored_numbers(&mut self, q: u8, m: u8) {
+    fn bad_stored_numbers(&mut self, q: u8, m: u16) {
         self.set(q, m, &[MISSING; PLACE_COUNT]);
         self.arrive(0, 0);
         self.ask(1);
@@ -599,14 +608,34 @@ mod tests {
     }
 
     #[test]
-    fn there_are_about_20000_cases_and_each_fits_its_record() {
+    fn there_are_about_24000_cases_and_each_fits_its_record() {
         let cases = all_cases();
-        assert!((19500..=20500).contains(&cases.len()), "{}", cases.len());
+        assert!((23000..=25000).contains(&cases.len()), "{}", cases.len());
         for case in &cases {
             let record: [u8; RECORD_LENGTH] = case.to_record();
             assert_eq!(&Case::from_record(&record), case);
             assert!(case.op != b's' || case.input.len() == PLACE_COUNT);
         }
+    }
+
+    /// The cases from before request T-08 and their lines, by number and checksum.
+    #[test]
+    fn the_cases_of_8_bits_come_first_and_are_unchanged() {
+        let eight_bit = eight_bit_cases();
+        assert_eq!(eight_bit.len(), 20_067);
+        assert_eq!(all_cases()[..20_067], eight_bit);
+        let mut runner = Runner::default();
+        let lines: String = eight_bit.iter().map(|case| runner.run(case)).collect();
+        let records: Vec<u8> = eight_bit.iter().flat_map(Case::to_record).collect();
+        assert_eq!(checksum(&records), 0x58D0_75EB_720B_C1DE);
+        assert_eq!(checksum(lines.as_bytes()), 0xEB97_CD76_D8CA_B4D7);
+    }
+
+    /// FNV-1a of 64 bits.
+    fn checksum(bytes: &[u8]) -> u64 {
+        bytes.iter().fold(0xCBF2_9CE4_8422_2325, |sum, &byte| {
+            (sum ^ u64::from(byte)).wrapping_mul(0x0100_0000_01B3)
+        })
     }
 
     /// Each op gets every answer that it can give and no other, and every
@@ -618,7 +647,7 @@ mod tests {
         let lines: Vec<String> = cases.iter().map(|case| runner.run(case)).collect();
         let answers: BTreeSet<String> = lines.iter().map(|line| op_and_number(line)).collect();
         assert_eq!(answers, possible_answers());
-        let accepted: BTreeSet<(u8, u8, u8)> = cases
+        let accepted: BTreeSet<(u8, u8, u16)> = cases
             .iter()
             .zip(&lines)
             .filter(|(case, line)| b"eur".contains(&case.op) && op_and_number(line).ends_with(" 0"))
@@ -637,7 +666,7 @@ mod tests {
             let before = *runner.session();
             let line = runner.run(&case);
             if op_and_number(&line) == "a 0" {
-                let index = usize::from(case.a);
+                let index = usize::from(case.place);
                 let held = before.places[index];
                 let mark = [MISSING, CONFLICT].into_iter().find(|&mark| mark == held);
                 let round = case.round.cmp(&before.rounds[index]);
@@ -668,6 +697,8 @@ mod tests {
             ("J", vec![0, 1, 2, 4]),
             ("c", vec![0, 5, 9, 10]),
             ("y", vec![0]),
+            ("p", vec![0, 1, 2, 5, 9, 10]),
+            ("t", vec![0, 1, 2, 3, 4, 5, 9, 10]),
         ];
         possible
             .into_iter()

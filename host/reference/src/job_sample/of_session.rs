@@ -15,7 +15,7 @@ impl Builder {
     }
 
     /// With arbitrary rounds, also at missing places.
-    fn store_session(&mut self, q: u8, m: u8, places: [u8; PLACE_COUNT]) {
+    fn store_session(&mut self, q: u8, m: u16, places: [u8; PLACE_COUNT]) {
         let rounds = [(); PLACE_COUNT].map(|()| self.round());
         self.session = Session {
             q,
@@ -31,7 +31,7 @@ impl Builder {
     }
 
     fn arrive(&mut self, place: usize, symbol: u8, round: u8) {
-        let place = place as u8;
+        let place = place as u16;
         self.cases.push(Case::of_arrival(place, symbol, round));
         self.session = self.session.arrive(place, symbol, round).0;
     }
@@ -99,7 +99,7 @@ impl Builder {
         }
     }
 
-    fn stored_numbers(&mut self, q: u8, m: u8) {
+    fn stored_numbers(&mut self, q: u8, m: u16) {
         self.store_session(q, m, [0; PLACE_COUNT]);
         self.refused_opening_from_session(32);
         let arbitrary = [(); PLACE_COUNT].map(|()| self.generator.byte());

@@ -35,7 +35,7 @@ impl Builder {
     }
 
     /// The job handed back has k = 1; `length` is the k of another.
-    fn refused_opening(&mut self, q: u8, m: u8, word: &[u8], length: usize) {
+    fn refused_opening(&mut self, q: u8, m: u16, word: &[u8], length: usize) {
         self.open(q, m, word);
         let budget = self.generator.byte();
         self.call(budget, 1);

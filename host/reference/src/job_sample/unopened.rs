@@ -22,7 +22,7 @@ const ARBITRARY_RECORDS: usize = 60;
 #[derive(Clone, Copy)]
 struct Numbers {
     q: u8,
-    m: u8,
+    m: u16,
     shape: Shape,
 }
 
@@ -35,7 +35,7 @@ impl Numbers {
         }
     }
 
-    fn bad(q: u8, m: u8) -> Numbers {
+    fn bad(q: u8, m: u16) -> Numbers {
         let shape = match q {
             2 => Shape::of(Curve::Q_IS_2, 7),
             _ => Shape::of(Curve::Q_IS_4, 37),
@@ -43,8 +43,8 @@ impl Numbers {
         Numbers { q, m, shape }
     }
 
-    fn next_places(self) -> [u8; 5] {
-        let n = self.shape.n as u8;
+    fn next_places(self) -> [u16; 5] {
+        let n = self.shape.n as u16;
         [0, n - 1, n, 64, 255]
     }
 }
@@ -93,23 +93,23 @@ impl Builder {
     fn every_work_kind(&mut self, numbers: Numbers) {
         for work_kind in WORK_KINDS {
             let area_kind = self.generator.below(AREA_KINDS);
-            let next_place = self.generator.byte_from(0, 70);
+            let next_place = u16::from(self.generator.byte_from(0, 70));
             self.unopened_job(numbers, work_kind, area_kind, next_place);
         }
     }
 
-    fn unopened_job(&mut self, numbers: Numbers, work_kind: u8, area_kind: usize, next_place: u8) {
+    fn unopened_job(&mut self, numbers: Numbers, work_kind: u8, area_kind: usize, next_place: u16) {
         let area = self.area(numbers.shape, area_kind);
         let length = self.any_length(numbers.shape.k);
         let case = Case {
             op: b'y',
             q: numbers.q,
             m: numbers.m,
+            place: next_place,
             a: BUDGETS[self.generator.below(BUDGETS.len())],
             b: FLAGS[self.generator.below(FLAGS.len())],
             round: work_kind,
             input: self.any_places(numbers.shape),
-            next_place,
             ..Case::default()
         };
         self.cases.push(case.with_area(&area, length));
@@ -197,12 +197,12 @@ impl Builder {
         let case = Case {
             op: b'y',
             q,
-            m,
+            m: u16::from(m),
+            place: u16::from(next_place),
             a,
             b,
             round: work_kind,
             input: self.generator.bytes(PLACE_COUNT),
-            next_place,
             ..Case::default()
         };
         self.cases.push(case.with_area(&area, length));

@@ -110,7 +110,7 @@ impl Builder {
     pub(super) fn bad_orders(&mut self) {
         for curve in Curve::BOTH {
             let shape = Shape::of(curve, 3);
-            let n = shape.n as u8;
+            let n = shape.n as u16;
             for order in [n, n + 1, 255] {
                 let codeword = self.codeword(shape);
                 self.call(curve.q(), order, &codeword, right_lengths(shape));
@@ -132,7 +132,7 @@ impl Builder {
 
     /// Calls with a fault of word or slices beside that of q or m: the word's
     /// length, its values, the slices, and all of them.
-    fn later_faults(&mut self, q: u8, m: u8, shape: Shape) {
+    fn later_faults(&mut self, q: u8, m: u16, shape: Shape) {
         let right = right_lengths(shape);
         let codeword = self.codeword(shape);
         self.call(q, m, &codeword[1..], right);

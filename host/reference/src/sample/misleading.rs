@@ -13,8 +13,8 @@ use crate::linear;
 const TRIES: usize = 4;
 
 /// s, the order of f.
-pub fn order_of_f(shape: Shape, radius: usize) -> u8 {
-    (radius + shape.curve.genus()) as u8
+pub fn order_of_f(shape: Shape, radius: usize) -> u16 {
+    (radius + shape.curve.genus()) as u16
 }
 
 /// The word with `count` wrong symbols in as few columns as can be. The product
@@ -79,7 +79,7 @@ pub fn of_higher_order(generator: &mut Generator, shape: Shape, radius: usize) -
 fn quotient_by(generator: &mut Generator, shape: Shape, radius: usize, f: &[u8]) -> Vec<u8> {
     let field = shape.curve.field();
     let columns = columns_with_zeros(shape, f);
-    let order_of_product = shape.q() * columns.len() as u8;
+    let order_of_product = u16::from(shape.q()) * columns.len() as u16;
     let order_of_rest = shape.m + order_of_f(shape, radius) - order_of_product;
     let rest = codeword(generator, Shape::of(shape.curve, order_of_rest));
     let mut word = symbols(generator, shape, shape.n);
@@ -105,10 +105,10 @@ fn zero_count(f: &[u8]) -> usize {
 
 /// An f that is 0 in s / q columns or fewer.
 fn with_few_zeros(generator: &mut Generator, shape: Shape, radius: usize) -> Vec<u8> {
-    let s = order_of_f(shape, radius);
+    let of_f = Shape::of(shape.curve, order_of_f(shape, radius));
     loop {
-        let f = codeword(generator, Shape::of(shape.curve, s));
-        if columns_with_zeros(shape, &f).len() <= usize::from(s / shape.q()) {
+        let f = codeword(generator, of_f);
+        if columns_with_zeros(shape, &f).len() <= of_f.columns_of_order() {
             return f;
         }
     }
@@ -119,7 +119,7 @@ fn with_few_zeros(generator: &mut Generator, shape: Shape, radius: usize) -> Vec
 fn without_zeros(generator: &mut Generator, shape: Shape, radius: usize) -> Vec<u8> {
     let field = shape.curve.field();
     let mut f = vec![1; shape.n];
-    for _ in 0..order_of_f(shape, radius) / (2 * shape.q()) {
+    for _ in 0..order_of_f(shape, radius) / (2 * u16::from(shape.q())) {
         let [b, c] = quadratic_without_zeros(generator, shape);
         for (value, point) in f.iter_mut().zip(shape.curve.points()) {
             *value = field.product(*value, quadratic(shape, [b, c], point.x));

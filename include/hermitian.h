@@ -1,5 +1,5 @@
 /*
- * Hermitian block code of the strap link: the four entries that C calls.
+ * Hermitian block code of the strap link: the five entries that C calls.
  *
  * The library turns a message of k symbols into a word of n symbols (a codeword:
  * values of a polynomial at the n points of a Hermitian curve), reads whole words
@@ -9,16 +9,21 @@
  * and gives the one answer of the rules. Only hermitian_mend corrects wrong
  * symbols; the other calls say when no message fits.
  *
- *   q   curve number   n, length of a word   symbols     order m
- *   2   small curve     8                    0 to 3      0 to 7
- *   4   large curve    64                    0 to 15     0 to 63
+ *   q   blocks         n, length of a word   symbols     order m
+ *   2   short            8                   0 to 3      0 to 7
+ *   4   short           64                   0 to 15     0 to 63
+ *   8   long           512                   0 to 63     0 to 511
  *
  * The strap uses q = 4, m = 37, k = 32. hermitian_message_length gives k for
  * every q and m. One symbol is one byte. m + 1 symbols of a word are always
  * enough to recover its message; fewer may be. Up to t wrong symbols of a whole
- * word are always mended, t being 10 for the strap.
+ * word of a short block are always mended, t being 10 for the strap.
  *
- * An m above 7 or 63, up to 65535, is refused. Earlier m was a uint8_t: a value up to
+ * hermitian_encode and hermitian_unencode take all three q. Long blocks are
+ * recovered by hermitian_recover_long, which takes no q and is lent memory to work
+ * in; hermitian_recover and hermitian_mend take short blocks only and refuse q = 8.
+ *
+ * An m of n or more, up to 65535, is refused. Earlier m was a uint8_t: a value up to
  * 255 means what it meant, but callers compiled then must be compiled anew.
  *
  * Memory. The library trusts these four points and can't check them:
@@ -30,16 +35,21 @@
  * Nor does anything check this header against the library's source: the two
  * are compared by tests (host/README.md).
  * Any length and any content are allowed: a wrong one is refused. The input is
- * never written. LENT OUTPUT IS UNCHANGED ON A REFUSAL.
+ * never written. LENT OUTPUT IS UNCHANGED ON A REFUSAL. The work memory of
+ * hermitian_recover_long is no output: what it holds afterwards is left open after
+ * a success and after refusals 9 and 10, and unchanged after the others.
  *
  * Threads. There is no state outside a call: no globals, no heap, no setup. Any
  * number of threads may call at once, each with output buffers of its own; they
- * may share an input. As built now, a call takes less than 12 KiB of stack
- * (measured and not proved: most is 11752 bytes, to mend, and of the other calls
- * 7656, to recover); from the platform it needs memcpy and memset.
+ * may share an input. As built now, a call on a short block takes less than
+ * 12 KiB of stack (measured and not proved: most is 12168 bytes, to mend, and of the
+ * other calls 8040, to recover), one on a long block less than 13 KiB; from the
+ * platform it needs memcpy and memset.
  *
  * Linking. `rt staticlib hermitian` writes target/staticlib/libhermitian.a, for
- * x86-64.
+ * x86-64, with all entries but hermitian_recover_long, which `rt staticlib
+ * hermitian_long` writes to target/staticlib/libhermitian_long.a; a program that
+ * doesn't call it needn't link that one.
  */
 #ifndef HERMITIAN_H
 #define HERMITIAN_H
@@ -51,20 +61,25 @@
 extern "C" {
 #endif
 
-/* Stands for a missing symbol; allowed in the word of hermitian_recover only. */
+/* Stands for a missing symbol; allowed in the words of hermitian_recover and
+   hermitian_recover_long only. */
 #define HERMITIAN_MISSING 255
+
+/* The bytes that hermitian_recover_long is lent to work in. */
+#define HERMITIAN_WORK_LENGTH 262144
 
 /*
  * Why a call was refused. The checks run in this order, only 12 comes right
- * after 2, and the first that applies decides. 6 and 7 belong to receiving
- * sessions, which C doesn't call; the entries below never give them. 8 no longer
- * occurs.
+ * after 2 and 14 right after 5, and the first that applies decides. 6 and 7 belong
+ * to receiving sessions and 13 to the field's inverse, which C doesn't call; the
+ * entries below never give them. 8 no longer occurs.
  */
 enum hermitian_refusal {
     HERMITIAN_DONE = 0,
-    /* q is neither 2 nor 4. */
+    /* q is none of 2, 4 and 8; for recover and mend: q is neither 2 nor 4. */
     HERMITIAN_UNKNOWN_CURVE = 1,
-    /* m is n or more: above 7 (q = 2) or above 63 (q = 4), up to 65535. */
+    /* m is n or more: above 7 (q = 2), 63 (q = 4) or 511 (long blocks), up to
+       65535. */
     HERMITIAN_ORDER_TOO_HIGH = 2,
     /* The input isn't as long as it must be: k for a message, n for a word. */
     HERMITIAN_WRONG_INPUT_LENGTH = 3,
@@ -81,13 +96,17 @@ enum hermitian_refusal {
     /* No message has these symbols in its word: at least one of them is wrong. */
     HERMITIAN_NO_MESSAGE_FITS = 9,
     /* Too much is missing: two or more messages fit. Second number: r, where
-       exactly (q * q) to the power r messages fit. Only from recover. */
+       exactly (q * q) to the power r messages fit, 64 to the power r for a long
+       block. Only from recover and recover_long. */
     HERMITIAN_SEVERAL_MESSAGES_FIT = 10,
     /* No codeword differs from the word in at most t places. Only from mend. */
     HERMITIAN_NO_CODEWORD_NEAR = 11,
     /* n - m - 1 is less than g, so nothing is mended at this order: m is above 6
        (q = 2) or above 57 (q = 4). Only from mend. */
-    HERMITIAN_ORDER_TOO_HIGH_TO_MEND = 12
+    HERMITIAN_ORDER_TOO_HIGH_TO_MEND = 12,
+    /* The work memory isn't HERMITIAN_WORK_LENGTH bytes long. Only from
+       recover_long, after 5. */
+    HERMITIAN_WRONG_WORK_LENGTH = 14
 };
 
 /* Writes the word of a message: message_length must be k, word_length n. */
@@ -101,13 +120,23 @@ uint32_t hermitian_unencode(uint8_t q, uint16_t m,
                             const uint8_t *word, size_t word_length,
                             uint8_t *message, size_t message_length);
 
-/* Writes the only message that fits a word in which HERMITIAN_MISSING stands at
-   each missing place: word_length must be n, message_length k. */
+/* Writes the only message that fits a word of a short block in which
+   HERMITIAN_MISSING stands at each missing place: word_length must be n,
+   message_length k. */
 uint32_t hermitian_recover(uint8_t q, uint16_t m,
                            const uint8_t *word, size_t word_length,
                            uint8_t *message, size_t message_length);
 
-/* Mends a whole word with wrong symbols: finds the only codeword that differs
+/* Writes the only message that fits a word of a long block in which
+   HERMITIAN_MISSING stands at each missing place: word_length must be 512,
+   message_length k of q = 8, work_length HERMITIAN_WORK_LENGTH. It needs nothing of
+   what the work memory holds. */
+uint32_t hermitian_recover_long(uint16_t m,
+                                const uint8_t *word, size_t word_length,
+                                uint8_t *message, size_t message_length,
+                                uint8_t *work, size_t work_length);
+
+/* Mends a whole word of a short block with wrong symbols: finds the only codeword that differs
    from it in at most t places, t being n - m - 1 - g halved and rounded down, where
    g is 1 (q = 2) or 6 (q = 4); at t = 0 only codewords pass. Writes its message,
    the codeword, and n marks, 1 where a symbol was changed and 0 elsewhere: the
@@ -127,7 +156,7 @@ static inline unsigned hermitian_second(uint32_t answer) { return (unsigned)(ans
 
 /* n, the length of a word; 0 if q names no curve. */
 static inline size_t hermitian_word_length(uint8_t q) {
-    return q == 2 || q == 4 ? (size_t)q * q * q : 0;
+    return q == 2 || q == 4 || q == 8 ? (size_t)q * q * q : 0;
 }
 
 /* k, the length of a message: the number of terms x^i * y^j with j below q and

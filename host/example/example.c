@@ -1,12 +1,13 @@
 /* One message on its way: encoded, partly lost, recovered, and with wrong symbols
- * mended; then what a refusal looks like. Returns 1 if anything isn't as it should
- * be. */
+ * mended; then what a refusal looks like; then a long block. Returns 1 if anything
+ * isn't as it should be. */
 #include <stdio.h>
 #include <string.h>
 
 #include "hermitian.h"
 
 enum { Q = 4, M = 37, K = 32, N = 64 };
+enum { LONG_Q = 8, LONG_M = 300, LONG_K = 273, LONG_N = 512 };
 
 static int failures = 0;
 
@@ -37,7 +38,7 @@ static void explain(uint32_t answer) {
         puts("  done");
         break;
     case HERMITIAN_UNKNOWN_CURVE:
-        puts("  refused: the curve number must be 2 or 4");
+        puts("  refused: the curve number must be 2 or 4, or 8 for a long block");
         break;
     case HERMITIAN_ORDER_TOO_HIGH:
         puts("  refused: the order is too high for this curve");
@@ -55,13 +56,16 @@ static void explain(uint32_t answer) {
         puts("  refused: no message fits; at least one symbol is wrong");
         break;
     case HERMITIAN_SEVERAL_MESSAGES_FIT:
-        printf("  refused: too many symbols are missing; 16^%u messages fit\n", second);
+        printf("  refused: too many symbols are missing; Q^%u messages fit\n", second);
         break;
     case HERMITIAN_NO_CODEWORD_NEAR:
         puts("  refused: too many symbols are wrong; no codeword is near");
         break;
     case HERMITIAN_ORDER_TOO_HIGH_TO_MEND:
         puts("  refused: nothing is mended at this order");
+        break;
+    case HERMITIAN_WRONG_WORK_LENGTH:
+        puts("  refused: the work memory has the wrong length");
         break;
     default:
         printf("  refused: number %u, which this program doesn't know\n",
@@ -169,6 +173,62 @@ static void refuse(const uint8_t word[N]) {
     expect(memcmp(read, untouched, K) == 0, "the refusals wrote nothing");
 }
 
+/* The memory that long blocks are recovered in, too large for some stacks. */
+static uint8_t work[HERMITIAN_WORK_LENGTH];
+
+/* Loses the first `count` of the places 0, 5, 10, ..., as above: 5 and 512 share no
+ * factor either. */
+static void lose_of_long_block(uint8_t word[LONG_N], size_t count) {
+    for (size_t i = 0; i < count; i++) {
+        word[5 * i % LONG_N] = HERMITIAN_MISSING;
+    }
+}
+
+static uint32_t recover_long_block(const uint8_t word[LONG_N], uint8_t read[LONG_K]) {
+    memset(read, 0xAA, LONG_K);
+    return hermitian_recover_long(LONG_M, word, LONG_N, read, LONG_K, work, sizeof work);
+}
+
+static void lose_and_recover_long_block(void) {
+    uint8_t message[LONG_K];
+    uint8_t word[LONG_N] = {0};
+    uint8_t read[LONG_K] = {0};
+    uint8_t untouched[LONG_K];
+    memset(untouched, 0xAA, LONG_K);
+    for (size_t i = 0; i < LONG_K; i++) {
+        message[i] = (uint8_t)((11 * i + 5) % 64);
+    }
+    expect(hermitian_message_length(LONG_Q, LONG_M) == LONG_K &&
+               hermitian_word_length(LONG_Q) == LONG_N,
+           "the lengths of a long block of order 300 are 273 and 512");
+    expect(hermitian_encode(LONG_Q, LONG_M, message, LONG_K, word, LONG_N) == HERMITIAN_DONE,
+           "a long message is encoded");
+    expect(hermitian_unencode(LONG_Q, LONG_M, word, LONG_N, read, LONG_K) == HERMITIAN_DONE &&
+               memcmp(read, message, LONG_K) == 0,
+           "the long word is unencoded");
+
+    lose_of_long_block(word, 211);
+    expect(recover_long_block(word, read) == HERMITIAN_DONE && memcmp(read, message, LONG_K) == 0,
+           "the long message is recovered with 211 symbols missing");
+
+    uint32_t answer = hermitian_recover_long(LONG_M, word, LONG_N, read, LONG_K, work, 1);
+    explain(answer);
+    expect(hermitian_number(answer) == HERMITIAN_WRONG_WORK_LENGTH, "one byte is too little to work in");
+
+    answer = hermitian_recover(LONG_Q, LONG_M, word, LONG_N, read, LONG_K);
+    explain(answer);
+    expect(hermitian_number(answer) == HERMITIAN_UNKNOWN_CURVE,
+           "plain recovery takes short blocks only");
+
+    lose_of_long_block(word, 300);
+    answer = recover_long_block(word, read);
+    explain(answer);
+    expect(hermitian_number(answer) == HERMITIAN_SEVERAL_MESSAGES_FIT &&
+               hermitian_second(answer) == 61,
+           "212 symbols leave 61 of 273 open");
+    expect(memcmp(read, untouched, LONG_K) == 0, "the refusal wrote no message");
+}
+
 int main(void) {
     uint8_t message[K];
     uint8_t word[N] = {0};
@@ -180,6 +240,7 @@ int main(void) {
     lose_and_recover(message, word);
     damage_and_mend(message, word);
     refuse(word);
+    lose_and_recover_long_block();
     puts(failures == 0 ? "all as expected" : "SOMETHING FAILED");
     return failures == 0 ? 0 : 1;
 }

@@ -29,8 +29,8 @@ pub not-refused : (checked : Outcome) (slice : List ℕ) (answer : Answer) → c
 not-refused checked slice answer e = ap (λ (x : Outcome). unlessRefused x slice answer) e
 
 -- a refusal by the checks 1 and 2 is the call's
-pub order-refused : (q m : ℕ) (o : Outcome) → o ≡ orderChecks q m Done → Refused o → (rest : Outcome) → o ≡ orderChecks q m rest
-order-refused q m o e r rest = row-refused (orderChecks q m) (order-follows q m) o e rest r
+pub order-refused : (taken : Bool) (q m : ℕ) (o : Outcome) → o ≡ orderChecks taken q m Done → Refused o → (rest : Outcome) → o ≡ orderChecks taken q m rest
+order-refused taken q m o e r rest = row-refused (orderChecks taken q m) (order-follows taken q m) o e rest r
 
 -- what the checks refuse is the entry's answer
 pub entry-refused : (checked o : Outcome) (slice : List ℕ) (answer : Answer) → o ≡ checked → Refused o
@@ -38,9 +38,9 @@ pub entry-refused : (checked o : Outcome) (slice : List ℕ) (answer : Answer) �
 entry-refused checked o slice answer e r = refused checked o slice answer (sym e) (not-done o r)
 
 -- a call over both rows of checks that answers Done is past them
-module _ (q m : ℕ) (gaps : Bool) (Q takes : ℕ) (input : List ℕ) (writes room : ℕ) where
+module _ (taken : Bool) (q m : ℕ) (gaps : Bool) (Q takes : ℕ) (input : List ℕ) (writes room : ℕ) where
   abbrev both : Outcome
-  both = orderChecks q m (sliceChecks gaps Q takes input writes room Done)
+  both = orderChecks taken q m (sliceChecks gaps Q takes input writes room Done)
 
   pub past-checks : (slice v : List ℕ) (answer : Answer) → unlessRefused both slice answer ≡ answered Done v
       → (both ≡ Done) × (answer ≡ answered Done v)

@@ -1,6 +1,6 @@
 -- The checks: what it says that a check comes out Done, and refusals of a whole call. Of values they are the field's.
 -- Assumes nothing.
-use mathlib.Core.Bool.{Bool, false, not, cond}
+use mathlib.Core.Bool.{Bool, true, false, not, cond}
 use mathlib.Core.List.{List}
 use mathlib.Core.Path.{_≡_, refl, sym, ap, ap₂, _∙_}
 use Prim.Native.Nat.{ℕ, _*_, _≤_, _<_}
@@ -8,38 +8,36 @@ use native.Mathlib.Omega.{arith}
 use borrow.Author.Tests.{lt-leb, lt-ltb, le-ltb, eq-eqb, ne-eqb, eqb-true, leb-false, ltb-false, not-false}
 use lib.Dec.{leb, ltb, eqb}
 use lib.ListN.{length, getD}
-use Rattle.field.specs.Curve.{isCurve, IsCurve}
 use Rattle.field.specs.Outcomes.{number, refuse}
 use Rattle.field.specs.declared.outcome.Outcome.{Outcome}
 use Rattle.field.specs.declared.outcome.Outcome.the-variants.{Done, BadCurve, BadOrder, BadLength, BadValue, BadRoom}
-use Rattle.field.proofs.Curves.{curve-true, curve-of-true}
 pub use Rattle.field.proofs.Values.{good-symbol, good-gap, bad-gap, symbol-of-good, value-of-good, all-good, none-found}
-use Rattle.field.proofs.Outcomes.{passed, Follows, none-follow, refuse-follows, row-not-done, row-passed}
+use Rattle.field.proofs.Outcomes.{passed, Follows, none-follow, refuse-follows, follows-after, row-not-done, row-passed}
 use Rattle.code.specs.Terms.{size}
 use Rattle.code.specs.Checks.{orderChecks, badValue, firstBad, valueCheck, sliceChecks, callChecks}
 
 -- ---- rows of checks
 
 -- what it says that the checks 1 and 2 and all that follows come out Done
-pub order-rest : (q m : ℕ) (rest : Outcome) → orderChecks q m rest ≡ Done → IsCurve q × (m < q * q * q) × (rest ≡ Done)
+pub order-rest : (taken : Bool) (q m : ℕ) (rest : Outcome) → orderChecks taken q m rest ≡ Done → (taken ≡ true) × (m < q * q * q) × (rest ≡ Done)
 unfolding orderChecks
-order-rest q m rest e =
-    let a = passed (not (isCurve q)) (refuse (leb (q * q * q) m) BadOrder rest) BadCurve (λ p. omega (arith, ap number p)) e in
+order-rest taken q m rest e =
+    let a = passed (not taken) (refuse (leb (q * q * q) m) BadOrder rest) BadCurve (λ p. omega (arith, ap number p)) e in
     let b = passed (leb (q * q * q) m) rest BadOrder (λ p. omega (arith, ap number p)) (a .1) in
-    (curve-of-true q (not-false (isCurve q) (a .0)), leb-false (q * q * q) m (b .0), b .1)
+    (not-false taken (a .0), leb-false (q * q * q) m (b .0), b .1)
 
-pub order-done : (q m : ℕ) → orderChecks q m Done ≡ Done → IsCurve q × (m < q * q * q)
-order-done q m e = let w = order-rest q m Done e in (w .0, w .1)
+pub order-done : (taken : Bool) (q m : ℕ) → orderChecks taken q m Done ≡ Done → (taken ≡ true) × (m < q * q * q)
+order-done taken q m e = let w = order-rest taken q m Done e in (w .0, w .1)
 
 -- how the tests of the code decide 1 and 2
-module _ (q m : ℕ) (rest : Outcome) where
-  pub order-curve : isCurve q ≡ false → orderChecks q m rest ≡ BadCurve
+module _ (taken : Bool) (q m : ℕ) (rest : Outcome) where
+  pub order-curve : taken ≡ false → orderChecks taken q m rest ≡ BadCurve
   unfolding orderChecks
   order-curve e = rw e
 
-  pub order-passed : IsCurve q → m < q * q * q → orderChecks q m rest ≡ rest
+  pub order-passed : taken ≡ true → m < q * q * q → orderChecks taken q m rest ≡ rest
   unfolding orderChecks
-  order-passed c l = rw (curve-true q c, lt-leb (q * q * q) m l)
+  order-passed c l = rw (c, lt-leb (q * q * q) m l)
 
 -- what it says that check 4 and all that follows come out Done
 pub value-rest : (gaps : Bool) (Q : ℕ) (input : List ℕ) (rest : Outcome) → valueCheck gaps Q input rest ≡ Done
@@ -63,33 +61,46 @@ pub record Accepted (gaps : Bool) (Q takes : ℕ) (input : List ℕ) (writes roo
   pub good : (i : ℕ) → i < length input → badValue gaps Q (getD input i 0) ≡ false
   pub fits : room ≡ writes
 
+pub slices-rest : (gaps : Bool) (Q takes : ℕ) (input : List ℕ) (writes room : ℕ) (rest : Outcome)
+    → sliceChecks gaps Q takes input writes room rest ≡ Done → Accepted gaps Q takes input writes room × (rest ≡ Done)
+unfolding sliceChecks
+slices-rest gaps Q takes input writes room rest e =
+    let last = refuse (not (eqb room writes)) BadRoom rest in
+    let a = passed (not (eqb (length input) takes)) (valueCheck gaps Q input last) BadLength (λ p. omega (arith, ap number p)) e in
+    let b = value-rest gaps Q input last (a .1) in
+    let c = passed (not (eqb room writes)) rest BadRoom (λ p. omega (arith, ap number p)) (b .1) in (
+      record {
+        long = eqb-true (length input) takes (not-false (eqb (length input) takes) (a .0));
+        good = b .0;
+        fits = eqb-true room writes (not-false (eqb room writes) (c .0));
+      },
+      c .1,
+    )
+
 pub slices-done : (gaps : Bool) (Q takes : ℕ) (input : List ℕ) (writes room : ℕ)
     → sliceChecks gaps Q takes input writes room Done ≡ Done → Accepted gaps Q takes input writes room
-unfolding sliceChecks
-slices-done gaps Q takes input writes room e =
-    let rest = refuse (not (eqb room writes)) BadRoom Done in
-    let a = passed (not (eqb (length input) takes)) (valueCheck gaps Q input rest) BadLength (λ p. omega (arith, ap number p)) e in
-    let b = value-rest gaps Q input rest (a .1) in
-    let c = passed (not (eqb room writes)) Done BadRoom (λ p. omega (arith, ap number p)) (b .1) in
-    record {
-      long = eqb-true (length input) takes (not-false (eqb (length input) takes) (a .0));
-      good = b .0;
-      fits = eqb-true room writes (not-false (eqb room writes) (c .0));
-    }
+slices-done gaps Q takes input writes room e = slices-rest gaps Q takes input writes room Done e .0
 
 -- and what all five of a call say
-pub call-done : (gaps decodes : Bool) (q m : ℕ) (input : List ℕ) (room : ℕ) → callChecks gaps decodes q m input room ≡ Done
-    → IsCurve q × (m < q * q * q) × Accepted gaps (q * q) (cond decodes (q * q * q) (size q m)) input (cond decodes (size q m) (q * q * q)) room
-call-done gaps decodes q m input room e =
-    let w = order-rest q m _ e in
-    (w .0, w .1, slices-done gaps (q * q) (cond decodes (q * q * q) (size q m)) input (cond decodes (size q m) (q * q * q)) room (w .2))
+pub call-rest : (taken gaps decodes : Bool) (q m : ℕ) (input : List ℕ) (room : ℕ) (rest : Outcome)
+    → callChecks taken gaps decodes q m input room rest ≡ Done → (taken ≡ true) × (m < q * q * q)
+    × Accepted gaps (q * q) (cond decodes (q * q * q) (size q m)) input (cond decodes (size q m) (q * q * q)) room × (rest ≡ Done)
+call-rest taken gaps decodes q m input room rest e =
+    let w = order-rest taken q m _ e in
+    let s = slices-rest gaps (q * q) (cond decodes (q * q * q) (size q m)) input (cond decodes (size q m) (q * q * q)) room rest (w .2) in
+    (w .0, w .1, s .0, s .1)
+
+pub call-done : (taken gaps decodes : Bool) (q m : ℕ) (input : List ℕ) (room : ℕ) → callChecks taken gaps decodes q m input room Done ≡ Done
+    → (taken ≡ true) × (m < q * q * q)
+    × Accepted gaps (q * q) (cond decodes (q * q * q) (size q m)) input (cond decodes (size q m) (q * q * q)) room
+call-done taken gaps decodes q m input room e = let w = call-rest taken gaps decodes q m input room Done e in (w .0, w .1, w .2)
 
 -- the rows as such: a refusal of theirs is the call's
 
-pub order-follows : (q m : ℕ) → Follows (orderChecks q m)
+pub order-follows : (taken : Bool) (q m : ℕ) → Follows (orderChecks taken q m)
 unfolding orderChecks
-order-follows q m =
-    refuse-follows (not (isCurve q)) BadCurve (refuse (leb (q * q * q) m) BadOrder) refl
+order-follows taken q m =
+    refuse-follows (not taken) BadCurve (refuse (leb (q * q * q) m) BadOrder) refl
     (refuse-follows (leb (q * q * q) m) BadOrder (λ rest. rest) refl none-follow)
 
 -- check 4 before a row
@@ -141,8 +152,16 @@ slices-accepted gaps Q takes input writes room rest h =
     (value-good gaps Q input _ refl (omega (arith, none-found (badValue gaps Q) input (h .good)))) refl (h .fits)
 
 -- past 1 and 2 the call is decided by 3, 4 and 5
-pub call-past : (gaps decodes : Bool) (q m : ℕ) (input : List ℕ) (room : ℕ) (o : Outcome) (takes writes : ℕ) → IsCurve q × (m < q * q * q)
+pub call-past : (taken gaps decodes : Bool) (q m : ℕ) (input : List ℕ) (room : ℕ) (o : Outcome) (takes writes : ℕ)
+    → (taken ≡ true) × (m < q * q * q)
     → takes ≡ cond decodes (q * q * q) (size q m) → writes ≡ cond decodes (size q m) (q * q * q)
-    → o ≡ sliceChecks gaps (q * q) takes input writes room Done → o ≡ callChecks gaps decodes q m input room
-call-past gaps decodes q m input room o takes writes p t w e =
-    e ∙ ap₂ (λ (a b : ℕ). sliceChecks gaps (q * q) a input b room Done) t w ∙ sym (order-passed q m _ (p .0) (p .1))
+    → o ≡ sliceChecks gaps (q * q) takes input writes room Done → o ≡ callChecks taken gaps decodes q m input room Done
+call-past taken gaps decodes q m input room o takes writes p t w e =
+    e ∙ ap₂ (λ (a b : ℕ). sliceChecks gaps (q * q) a input b room Done) t w ∙ sym (order-passed taken q m _ (p .0) (p .1))
+
+-- and what follows a call's checks
+pub call-follows : (taken gaps decodes : Bool) (q m : ℕ) (input : List ℕ) (room : ℕ) → Follows (callChecks taken gaps decodes q m input room)
+call-follows taken gaps decodes q m input room =
+    follows-after (orderChecks taken q m)
+    (sliceChecks gaps (q * q) (cond decodes (q * q * q) (size q m)) input (cond decodes (size q m) (q * q * q)) room) (order-follows taken q m)
+    (slices-follow gaps (q * q) (cond decodes (q * q * q) (size q m)) input (cond decodes (size q m) (q * q * q)) room)

@@ -12,7 +12,7 @@ use Rattle.field.specs.Plus.{plus}
 use Rattle.field.specs.Power.{power}
 use Rattle.field.proofs.Fields.{fieldOf}
 use Rattle.field.proofs.FieldLaws.{zero-lt}
-use Rattle.field.proofs.Curves.{sizes}
+use Rattle.field.proofs.Curves.{sizes, curve-even}
 use Rattle.poly.specs.inner.Polynomials.{value}
 use Rattle.poly.specs.inner.Ranges.{Below, part, put}
 use Rattle.poly.specs.inner.Lanes.{lanes}
@@ -48,10 +48,10 @@ module _ (q : ℕ) (columns word : List ℕ) (w : WordOver q columns word) where
 
   -- sixteen numbers from the first y of column t on
   module _ (all : List ℕ) (p : PaddedYs q all) (t : ℕ) (l : t < length columns) where
-    pub lanes-fit : q * getD columns t 0 + 16 ≤ 80
+    pub lanes-fit : q * getD columns t 0 + 16 ≤ length all
     lanes-fit =
         let c = sizes q (w .over .curve) in
-        omega (arith, c .grid, c .points, block-fits q (getD columns t 0) (q * q) (w .over .small t l))
+        omega (arith, c .grid, p .long, block-fits q (getD columns t 0) (q * q) (w .over .small t l))
 
     module _ (ys : List ℕ) (is-ys : ys ≡ lanes (λ s. getD all (q * getD columns t 0 + s) 0)) where
       y-at : (s : ℕ) → s < q → getD ys s 0 ≡ columnY q columns t s
@@ -91,7 +91,7 @@ module _ (q : ℕ) (columns word : List ℕ) (w : WordOver q columns word) where
             × TrinomialRoots (fieldOf q) (length (part word at (at + q))) ys
         column-given = (
           record {
-            even = rw long (w .over .curve);
+            even = rw long (curve-even q (w .over .curve));
             room = omega (arith, long, row-long, sizes q (w .over .curve) .high);
             places-below = taken-below q (getD columns t 0) all ys p is-ys;
             values-below = below-part (fieldOf q .size) word at (at + q) (w .symbols);

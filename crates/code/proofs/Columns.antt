@@ -21,6 +21,7 @@ use Rattle.code.specs.Points.{onCurve, ysOf, pointsOn}
 use Rattle.code.specs.Terms.{size}
 use Rattle.code.specs.Word.{valueAt, wordOf}
 use Rattle.code.proofs.Passing.{at-place}
+use Rattle.code.proofs.Traces.{length-ys-8}
 
 -- ---- the y of a column
 
@@ -38,6 +39,7 @@ length-ys =
     each-curve (λ q. (x : ℕ) → x < q * q → length (ysOf q x) ≡ q)
     (λ x l. sym (entry (λ x. length (ysOf 2 x)) 4 (replicate 4 2) counts-2 x l) ∙ getD-replicate 4 x 2 0 l)
     (λ x l. sym (entry (λ x. length (ysOf 4 x)) 16 (replicate 16 4) counts-4 x l) ∙ getD-replicate 16 x 4 0 l)
+    length-ys-8
 
 pub y-symbol : (q : ℕ) → IsCurve q → (x t : ℕ) → x < q * q → t < q → getD (ysOf q x) t 0 < 2 ^ bitsOf q
 unfolding ysOf

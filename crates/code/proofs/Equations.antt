@@ -11,12 +11,12 @@ use borrow.Author.Tests.{eq-eqb, ne-eqb}
 use borrow.Rule.Slice.PartMut.{putMid}
 use lib.ListN.{length, getD, set, replicate}
 use lib.Seq.{getD-set-same, getD-set-other}
-use Rattle.field.specs.Curve.{IsCurve}
+use Rattle.field.specs.Curve.{IsCurve, IsShort}
 use Rattle.field.specs.Power.{power}
 use Rattle.field.proofs.Fields.{fieldOf}
 use Rattle.field.proofs.FieldLaws.{zero-lt}
 use Rattle.field.proofs.Powers.{power-zero, power-next, power-lt}
-use Rattle.field.proofs.Curves.{sizes}
+use Rattle.field.proofs.Curves.{sizes, short-sizes, short-curve}
 use Rattle.poly.specs.inner.Ranges.{Below, writes, part, Blocks}
 use Rattle.poly.specs.inner.Linear.{entry}
 use Rattle.poly.specs.inner.Rows.{scaled, stored}
@@ -50,7 +50,10 @@ pub record RowAt (q x y i : ℕ) (row : List ℕ) : Type 0 where
   pub at : (j : ℕ) → j < q → entry row j ≡ termAt q x y i j
   pub symbols : Below (fieldOf q .size) row
 
-module _ (q x y : ℕ) (curve : IsCurve q) where
+module _ (q x y : ℕ) (short : IsShort q) where
+  curve : IsCurve q
+  curve = short-curve q short
+
   pub row-start : (row : List ℕ) → row ≡ writes (replicate 4 0) 4 (power (fieldOf q) y) → RowAt q x y 0 row
   row-start row e =
       let F = fieldOf q in
@@ -59,7 +62,7 @@ module _ (q x y : ℕ) (curve : IsCurve q) where
       record {
         long = ap length e ∙ length-writes zeros p 4;
         at = λ j l.
-            ap (λ (t : List ℕ). entry t j) e ∙ writes-in zeros p 4 j (omega (arith, sizes q curve .high)) (omega arith)
+            ap (λ (t : List ℕ). entry t j) e ∙ writes-in zeros p 4 j (omega (arith, short-sizes q short .high)) (omega arith)
             ∙ sym (ap (λ (a : ℕ). F .times a (p j)) (power-zero F x) ∙ F .times-one (p j) (power-lt F y j));
         symbols = subst (Below (F .size)) (sym e)
             (below-writes zeros p (F .size) 4 (omega arith) (below-zeros (F .size) 4 (zero-lt F)) (λ j l. power-lt F y j));
@@ -69,7 +72,7 @@ module _ (q x y : ℕ) (curve : IsCurve q) where
   pub row-turn : (i : ℕ) (row next : List ℕ) → RowAt q x y i row → next ≡ scaled (fieldOf q) x q row → RowAt q x y (i + 1) next
   row-turn i row next h e =
       let F = fieldOf q in
-      let fits : q ≤ length row = omega (arith, sizes q curve .high, h .long) in
+      let fits : q ≤ length row = omega (arith, short-sizes q short .high, h .long) in
       record {
         long = ap length e ∙ length-scaled F x q row ∙ h .long;
         at = λ j l.
@@ -92,7 +95,7 @@ module _ (q x y : ℕ) (curve : IsCurve q) where
   pub rows-room : (m : ℕ) → m < q * 16 → q * (m / q + 1) ≤ 64
   rows-room m l =
       let z = sizes q curve in
-      omega (arith, mul-le-mul (z .high) (rows-fit q m 16 (omega (arith, z .low)) l))
+      omega (arith, mul-le-mul (short-sizes q short .high) (rows-fit q m 16 (omega (arith, z .low)) l))
 
   -- the term of weight w stands at its entry
   term-entry : (m : ℕ) (grid : List ℕ) → Blocks q (termAt q x y) grid (m / q + 1) → (w : ℕ) → isTerm q w ≡ true → w ≤ m
@@ -167,7 +170,7 @@ place-column q curve c p i j d l = omega (arith, d .0, rows-fit q p c (omega (ar
 
 -- the point of a place, in the table of all ys
 pub place-point : (q : ℕ) (columns : List ℕ) → Columns q columns → (p i j : ℕ) → Split q p i j → p < q * length columns → (ys : List ℕ) → Ys q ys
-    → (i < length columns) × (q * getD columns i 0 + j < 64)
+    → (i < length columns) × (q * getD columns i 0 + j < q * q * q)
     × (getD ys (q * getD columns i 0 + j) 0 ≡ getD (ysOf q (getD columns (p / q) 0)) (p % q) 0)
 place-point q columns h p i j d l ys table =
     let il = place-column q (h .curve) (length columns) p i j d l in

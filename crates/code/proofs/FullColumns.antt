@@ -4,14 +4,14 @@ use mathlib.Core.Bool.{true, false}
 use mathlib.Core.List.{List, []}
 use mathlib.Core.Logic.{inl, inr, ⊎-elim}
 use mathlib.Core.Path.{_≡_, refl, sym, ap, _∙_}
-use Prim.Native.Nat.{ℕ, zero, suc, _+_, _*_, _≤_, _<_}
+use Prim.Native.Nat.{ℕ, zero, suc, _*_, _<_}
 use native.Mathlib.Decide.{decLt}
 use native.Mathlib.Omega.{arith}
 use lib.ListN.{length, getD, List·getD-eq-default}
-use Rattle.field.specs.Curve.{IsCurve}
+use Rattle.field.specs.Curve.{IsCurve, IsShort}
 use Rattle.field.proofs.Fields.{fieldOf}
 use Rattle.field.proofs.FieldLaws.{zero-lt}
-use Rattle.field.proofs.Curves.{each-curve, sizes}
+use Rattle.field.proofs.Curves.{each-short, sizes}
 use Rattle.poly.specs.inner.Ranges.{Below}
 use Rattle.code.specs.Passing.{passing, upTo}
 use Rattle.code.specs.Points.{pointsOn, columnsOf}
@@ -56,11 +56,10 @@ accepted-symbols q curve takes input writes room h i = elim (decLt i (length inp
 pub encodable : (q m : ℕ) (message word : List ℕ) → IsCurve q → m < q * q * q → Accepted false (q * q) (size q m) message (q * q * q) (length word)
     → Encodable q (columnsOf q) m message word
 encodable q m message word curve l h =
-    let z = sizes q curve in
     let n = full-places q curve in
     record {
       over = full-columns q curve;
-      few = omega (arith, length-upTo (q * q), z .symbols);
+      few = omega (arith, length-upTo (q * q));
       order = omega arith;
       long = h .long;
       symbols = accepted-symbols q curve (size q m) message (q * q * q) (length word) h;
@@ -74,17 +73,17 @@ broken-over q m word writes room curve l h =
     let n = full-places q curve in
     record {
       over = full-columns q curve;
-      few = omega (arith, length-upTo (q * q), z .symbols);
+      few = omega (arith, length-upTo (q * q));
       order = omega arith;
       long = h .long ∙ sym n;
       value = λ p b. ⊎-elim inl (λ k. inr (omega (arith, z .size))) (value-of-good (q * q) (getD word p 0) (h .good p b));
     }
 
--- k is less than 64
-pub size-short : (q : ℕ) → IsCurve q → (m : ℕ) → m < q * q * q → size q m < 64
+-- k of a short block is less than 64
+pub size-short : (q : ℕ) → IsShort q → (m : ℕ) → m < q * q * q → size q m < 64
 unfolding passing
 size-short =
-    each-curve (λ q. (m : ℕ) → m < q * q * q → size q m < 64)
+    each-short (λ q. (m : ℕ) → m < q * q * q → size q m < 64)
     (λ m l. omega (arith, place-le (isTerm 2) (suc m) 8 l)) (λ m l. omega (arith, place-le (isTerm 4) (suc m) 64 l))
 
 pub readable : (q m : ℕ) (word message : List ℕ) → IsCurve q → m < q * q * q → Accepted false (q * q) (q * q * q) word (size q m) (length message)
@@ -94,7 +93,7 @@ readable q m word message curve l h =
     record {
       whole = record {
         over = full-columns q curve;
-        few = omega (arith, length-upTo (q * q), sizes q curve .symbols);
+        few = omega (arith, length-upTo (q * q));
         long = h .long ∙ sym n;
         symbols = accepted-symbols q curve (q * q * q) word (size q m) (length message) h;
       };

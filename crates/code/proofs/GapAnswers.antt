@@ -2,28 +2,34 @@
 -- Assumes nothing.
 use mathlib.Core.Bool.{Bool, true, false}
 use mathlib.Core.List.{List}
+use mathlib.Core.Logic.{inl, inr}
 use mathlib.Core.Path.{_≡_, refl, sym, ap, _∙_, subst}
 use Prim.Native.Nat.{ℕ, _+_, _-_, _*_, _≤_, _<_}
+use native.Mathlib.Nat.{mul-le-mul-left}
 use native.Mathlib.Omega.{arith}
+use native.Mathlib.Decide.{decLt}
+use borrow.Author.Tests.{lt-ltb, le-ltb}
 use lib.Dec.{eqb}
 use lib.ListN.{length, take}
 use lib.Seq.{getD-take, length-take-le}
-use Rattle.field.specs.Curve.{IsCurve}
-use Rattle.field.proofs.Curves.{each-curve}
+use Rattle.field.specs.Curve.{IsShort}
+use Rattle.field.proofs.Curves.{each-short, short-sizes}
 use Rattle.field.proofs.Fields.{fieldOf}
 use Rattle.poly.specs.Sets.{ListOf}
 use Rattle.poly.specs.inner.Ranges.{Below}
 use Rattle.poly.specs.inner.Linear.{entry}
 use Rattle.poly.specs.inner.Combinations.{rowsFrom, ZeroOn, Padded, Eliminated}
+use Rattle.poly.proofs.Bools.{true-or-false}
 use Rattle.poly.proofs.Parts.{below-take}
+use Rattle.poly.proofs.Blocks.{block-fits}
 use Rattle.poly.proofs.Interleaving.{place-lt}
-use Rattle.code.specs.Recovered.{reading, nothing, message, several}
+use Rattle.code.specs.Recovered.{Reading, reading, answerOf, nothing, message, several}
 use Rattle.code.specs.Terms.{size}
 use Rattle.code.specs.Word.{wordOf}
 use Rattle.code.specs.inner.Grid.{gather, orderAtMost}
 use Rattle.code.specs.inner.Recovering.{BrokenOver}
 use Rattle.code.specs.inner.Indicators.{blocksOf}
-use Rattle.code.specs.inner.Gaps.{Gap, gapsOf, heavy, GapGrids, IndicatorRows, KnownGrid}
+use Rattle.code.specs.inner.Gaps.{Gap, gapsOf, heavy, GapGrids, IndicatorRows, KnownGrid, restAnswer}
 use Rattle.code.proofs.Stages.{columns-short}
 use Rattle.code.proofs.Passing.{place-bound}
 use Rattle.code.proofs.GapRows.{gaps-listed, rows-grids, rows-padded}
@@ -34,32 +40,36 @@ pub broken-0 : (q : ℕ) (columns : List ℕ) (m : ℕ) (word : List ℕ) → Br
 broken-0 q columns m word h =
     record { over = h .over; few = h .few; order = omega (arith, h .order); long = h .long; value = h .value }
 
--- a row has room for the blocks of a grid
-pub blocks-fit : (q : ℕ) → IsCurve q → 16 * blocksOf q ≤ 64
-blocks-fit = each-curve (λ q. 16 * blocksOf q ≤ 64) (omega arith) (omega arith)
+-- the places of a short block
+pub short-places : (q : ℕ) (columns : List ℕ) (m : ℕ) (word : List ℕ) → BrokenOver q columns m word → IsShort q
+    → (q * length columns ≤ 64) × (length word ≤ 64) × (length columns ≤ 16)
+short-places q columns m word h short =
+    let l = columns-short q columns (h .over) short (h .few) in
+    (l, omega (arith, h .long, l), omega (arith, h .few, short-sizes q short .symbols))
+
+-- a row of a short block has room for the blocks of a grid
+pub blocks-fit : (q : ℕ) → IsShort q → 16 * blocksOf q ≤ 64
+blocks-fit = each-short (λ q. 16 * blocksOf q ≤ 64) (omega arith) (omega arith)
 
 module _ (q : ℕ) (columns : List ℕ) (m : ℕ) (word : List ℕ) (h : BrokenOver q columns m word) (full : length columns ≡ q * q)
-    (count : ℕ) (counted : count ≡ length (gapsOf word)) (vectors : List ℕ) (room : length vectors ≡ 4096)
-    (rows : IndicatorRows q columns (gapsOf word) 64 vectors) where
-  short : q * length columns ≤ 64
-  short = columns-short q columns (h .over) (h .few)
-
-  pub count-le : count ≤ 64
+    (n : ℕ) (short : q * length columns ≤ n) (count : ℕ) (counted : count ≡ length (gapsOf word)) (vectors : List ℕ)
+    (room : n * n ≤ length vectors) (rows : IndicatorRows q columns (gapsOf word) n vectors) where
+  pub count-le : count ≤ n
   count-le = omega (arith, counted, place-bound (λ p. eqb (entry word p) 255) (length word), h .long, short)
 
-  pub count-fits : 64 * count ≤ length vectors
-  count-fits = omega (arith, count-le)
+  pub count-fits : n * count ≤ length vectors
+  count-fits = omega (arith, mul-le-mul-left n count-le)
 
-  pub lent-long : length (take (64 * count) vectors) ≡ 64 * count
-  lent-long = length-take-le (64 * count) vectors count-fits
+  pub lent-long : length (take (n * count) vectors) ≡ n * count
+  lent-long = length-take-le (n * count) vectors count-fits
 
-  lent-at : (p i : ℕ) → p < count → i < 64 → entry (take (64 * count) vectors) (64 * p + i) ≡ entry vectors (64 * p + i)
-  lent-at p i l b = getD-take (64 * count) vectors (64 * p + i) 0 (omega arith)
+  lent-at : (p i : ℕ) → p < count → i < n → entry (take (n * count) vectors) (n * p + i) ≡ entry vectors (n * p + i)
+  lent-at p i l b = getD-take (n * count) vectors (n * p + i) 0 (omega (arith, block-fits n p count l))
 
-  pub lent-symbols : Below (fieldOf q .size) (take (64 * count) vectors)
-  lent-symbols = below-take (fieldOf q .size) vectors (64 * count) (rows .symbols)
+  pub lent-symbols : Below (fieldOf q .size) (take (n * count) vectors)
+  lent-symbols = below-take (fieldOf q .size) vectors (n * count) (rows .symbols)
 
-  lent-rows : IndicatorRows q columns (gapsOf word) 64 (take (64 * count) vectors)
+  lent-rows : IndicatorRows q columns (gapsOf word) n (take (n * count) vectors)
   lent-rows =
       record {
         symbols = lent-symbols;
@@ -68,18 +78,18 @@ module _ (q : ℕ) (columns : List ℕ) (m : ℕ) (word : List ℕ) (h : BrokenO
         zeros = λ p i a b c. lent-at p i (omega (arith, counted)) c ∙ rows .zeros p i a b c;
       }
 
-  module _ (grid : List ℕ) (known : KnownGrid q columns word grid) (r : ℕ) (after left : List ℕ) (long : length left ≡ 64)
-      (eliminated : Eliminated (fieldOf q) (heavy q m) 64 count (rowsFrom 64 0 (take (64 * count) vectors) grid) count r
-      (rowsFrom 64 count after left)) where
+  module _ (grid : List ℕ) (known : KnownGrid q columns word grid) (r : ℕ) (after left : List ℕ) (long : length left ≡ n)
+      (eliminated : Eliminated (fieldOf q) (heavy q m) n count (rowsFrom n 0 (take (n * count) vectors) grid) count r
+      (rowsFrom n count after left)) where
     abbrev gaps : List ℕ
     gaps = gapsOf word
 
     abbrev lent : List ℕ
-    lent = take (64 * count) vectors
+    lent = take (n * count) vectors
 
-    ended : Eliminated (fieldOf q) (heavy q m) 64 (length gaps) (rowsFrom 64 0 lent grid) count r (rowsFrom 64 count after left)
+    ended : Eliminated (fieldOf q) (heavy q m) n (length gaps) (rowsFrom n 0 lent grid) count r (rowsFrom n count after left)
     ended =
-        subst (λ (e : ℕ). Eliminated (fieldOf q) (heavy q m) 64 e (rowsFrom 64 0 lent grid) count r (rowsFrom 64 count after left)) counted eliminated
+        subst (λ (e : ℕ). Eliminated (fieldOf q) (heavy q m) n e (rowsFrom n 0 lent grid) count r (rowsFrom n count after left)) counted eliminated
 
     done : length gaps ≤ count
     done = omega (arith, counted)
@@ -87,29 +97,42 @@ module _ (q : ℕ) (columns : List ℕ) (m : ℕ) (word : List ℕ) (h : BrokenO
     listed : ListOf (Gap word) gaps
     listed = gaps-listed word
 
-    grids : GapGrids q columns word gaps (rowsFrom 64 0 lent grid)
-    grids = rows-grids q columns (h .over) full word gaps (h .long) listed 64 short lent grid lent-rows known
+    grids : GapGrids q columns word gaps (rowsFrom n 0 lent grid)
+    grids = rows-grids q columns (h .over) full word gaps (h .long) listed n short lent grid lent-rows known
 
-    pad : Padded (q * length columns) 64 (length gaps) (rowsFrom 64 0 lent grid)
-    pad = rows-padded q columns (h .over) full word gaps (h .long) listed 64 short lent grid lent-rows known
+    pad : Padded (q * length columns) n (length gaps) (rowsFrom n 0 lent grid)
+    pad = rows-padded q columns (h .over) full word gaps (h .long) listed n short lent grid lent-rows known
 
     abbrev Test : Bool → Type 0
     Test b = orderAtMost q m (length left) left ≡ b
 
-    is-light : Test true → ZeroOn (heavy q m) 64 (entry left)
-    is-light e = light q m 64 (entry left) left (λ i l. refl) (rw long at e)
+    is-light : Test true → ZeroOn (heavy q m) n (entry left)
+    is-light e = light q m n (entry left) left (λ i l. refl) (rw long at e)
 
     pub nothing-left : Test false → reading (fieldOf q .size) (size q m) (wordOf q columns m) word ≡ nothing
     nothing-left e =
-        gaps-nothing q columns m word h gaps listed _ grids 64 pad count r _ ended done
-        (not-light q m 64 (entry left) left (λ i l. refl) (rw long at e))
+        gaps-nothing q columns m word h gaps listed _ grids n pad count r _ ended done
+        (not-light q m n (entry left) left (λ i l. refl) (rw long at e))
 
     pub several-left : Test true → r < count → reading (fieldOf q .size) (size q m) (wordOf q columns m) word ≡ several (count - r)
     several-left e l =
-        gaps-several q columns m word h gaps listed _ grids 64 pad count r _ ended done (is-light e) (omega (arith, counted))
+        gaps-several q columns m word h gaps listed _ grids n pad count r _ ended done (is-light e) (omega (arith, counted))
         ∙ ap (λ (x : ℕ). several (x - r)) (sym counted)
 
     pub message-left : Test true → count ≤ r → reading (fieldOf q .size) (size q m) (wordOf q columns m) word ≡ message (gather q m left)
     message-left e l =
-        gaps-message q columns m word h gaps listed _ grids 64 pad count r _ ended done (omega (arith, counted, eliminated .pivots)) left
+        gaps-message q columns m word h gaps listed _ grids n pad count r _ ended done (omega (arith, counted, eliminated .pivots)) left
         (λ i b. refl) (is-light e)
+
+    -- so the answer from what is left is that of recovery
+    pub rest-answer : (slice : List ℕ)
+        → restAnswer q m count r left slice ≡ answerOf (reading (fieldOf q .size) (size q m) (wordOf q columns m) word) slice
+    unfolding answerOf
+    rest-answer slice =
+        elim (true-or-false (orderAtMost q m (length left) left)) [
+          | inr e ↦ rw e (sym (ap (λ (x : Reading). answerOf x slice) (nothing-left e)))
+          | inl e ↦ elim (decLt r count) [
+            | yes l ↦ rw (e, lt-ltb r count l) (sym (ap (λ (x : Reading). answerOf x slice) (several-left e l)))
+            | no d ↦ rw (e, le-ltb r count (omega arith)) (sym (ap (λ (x : Reading). answerOf x slice) (message-left e (omega arith))))
+          ]
+        ]

@@ -3,14 +3,15 @@
 use mathlib.Core.Bool.{Bool, true, false, not}
 use mathlib.Core.List.{List}
 use mathlib.Core.Path.{_≡_, refl, sym, ap, _∙_, subst}
-use Prim.Native.Nat.{ℕ, _<_}
+use Prim.Native.Nat.{ℕ, _*_, _%_, _≤_, _<_}
 use native.Mathlib.Omega.{arith}
 use lib.Dec.{eqb}
 use lib.ListN.{length, length-replicate}
+use Rattle.field.specs.Curve.{IsShort}
 use Rattle.field.specs.inner.Halves.{halfOf}
+use Rattle.field.proofs.Curves.{each-short}
 use Rattle.field.proofs.FieldLaws.{zero-lt}
 use Rattle.field.proofs.Fields.{fieldOf}
-use Rattle.field.proofs.Halves.{half-le}
 use Rattle.poly.specs.Lists.{oneIf}
 use Rattle.poly.specs.inner.Ranges.{writes}
 use Rattle.poly.specs.inner.Linear.{entry}
@@ -25,31 +26,34 @@ one-marked : (b : Bool) → not (eqb (oneIf b) 0) ≡ b
 one-marked true = refl
 one-marked false = refl
 
-module _ (q m : ℕ) (high : List ℕ) (is : high ≡ writes (zeros 64) 64 (λ e. oneIf (heavy q m e))) where
-  pub high-long : length high ≡ 64
-  high-long = ap length is ∙ length-writes (zeros 64) _ 64 ∙ length-replicate {A = ℕ} 64 0
+module _ (q m : ℕ) (high₀ high : List ℕ) (is : high ≡ writes high₀ (length high₀) (λ e. oneIf (heavy q m e))) where
+  pub high-long : length high ≡ length high₀
+  high-long = ap length is ∙ length-writes high₀ _ (length high₀)
 
-  heavy-marked : (i : ℕ) → i < 64 → marked high i ≡ heavy q m i
+  heavy-marked : (i : ℕ) → i < length high₀ → marked high i ≡ heavy q m i
   heavy-marked i l =
-      ap (λ (x : ℕ). not (eqb x 0)) (ap (λ (x : List ℕ). entry x i) is ∙ writes-in (zeros 64) _ 64 i l (omega (arith, length-replicate {A = ℕ} 64 0)))
+      ap (λ (x : ℕ). not (eqb x 0)) (ap (λ (x : List ℕ). entry x i) is ∙ writes-in high₀ _ (length high₀) i l (omega arith))
       ∙ one-marked (heavy q m i)
 
   -- so elimination by the marks is elimination at the entries of a weight above m
   pub heavy-eliminated : (count : ℕ) (vectors grid after left : List ℕ) (r : ℕ)
       → Eliminated (fieldOf q) (marked high) (length high) count (rowsFrom (length high) 0 vectors grid) count r
       (rowsFrom (length high) count after left)
-      → Eliminated (fieldOf q) (heavy q m) 64 count (rowsFrom 64 0 vectors grid) count r (rowsFrom 64 count after left)
+      → Eliminated (fieldOf q) (heavy q m) (length high₀) count (rowsFrom (length high₀) 0 vectors grid) count r (rowsFrom (length high₀) count after left)
   heavy-eliminated count vectors grid after left r h =
-      eliminated-test (fieldOf q) (marked high) (heavy q m) 64 heavy-marked count (rowsFrom 64 0 vectors grid) count r (rowsFrom 64 count after left)
+      let n = length high₀ in
+      eliminated-test (fieldOf q) (marked high) (heavy q m) n heavy-marked count (rowsFrom n 0 vectors grid) count r (rowsFrom n count after left)
       (subst (λ (n : ℕ). Eliminated (fieldOf q) (marked high) n count (rowsFrom n 0 vectors grid) count r (rowsFrom n count after left)) high-long h)
 
--- room for the multiples of vectors of 64 symbols
-pub zero-table : (q n : ℕ) → n ≡ 64 → Table (fieldOf q) n (halfOf q) (zeros 256)
-zero-table q n e =
-    subst (λ (n : ℕ). Table (fieldOf q) n (halfOf q) (zeros 256)) (sym e)
-    (record {
-      sixteens = refl;
-      room = omega (arith, half-le q, length-replicate {A = ℕ} 256 0);
-      symbols = λ i. rw (getD-zeros 256 i) (zero-lt (fieldOf q));
-      zero = λ j l. getD-zeros 256 j;
-    })
+-- room for the multiples of vectors of n symbols
+pub zero-table : (q n room : ℕ) → n % 16 ≡ 0 → n * halfOf q ≤ room → Table (fieldOf q) n (halfOf q) (zeros room)
+zero-table q n room sixteens fits =
+    record {
+      sixteens = sixteens;
+      room = omega (arith, fits, length-replicate {A = ℕ} room 0);
+      symbols = λ i. rw (getD-zeros room i) (zero-lt (fieldOf q));
+      zero = λ j l. getD-zeros room j;
+    }
+
+pub short-half : (q : ℕ) → IsShort q → 64 * halfOf q ≤ 256
+short-half = each-short (λ q. 64 * halfOf q ≤ 256) (omega arith) (omega arith)

@@ -55,12 +55,12 @@ sixteen-at f n list test s t l k =
 abbrev pub yFactor : ℕ → ℕ → ℕ → ℕ
 yFactor q y t = indicator (fieldOf q) q y (t % q)
 
-pub y-factors-table : (q : ℕ) (list : List ℕ) → length list ≡ 256 → 16 * (q * q) ≤ 256 → T (agrees (sixteens (yFactor q)) 0 (16 * (q * q)) list)
-    → T (every 256 (λ p. ltb (getD list p 0) (fieldOf q .size))) → YFactors q list
-y-factors-table q list long fits test small =
+pub y-factors-table : (q n : ℕ) (list : List ℕ) → length list ≡ n → 16 * (q * q) ≤ n → T (agrees (sixteens (yFactor q)) 0 (16 * (q * q)) list)
+    → T (every n (λ p. ltb (getD list p 0) (fieldOf q .size))) → YFactors q list
+y-factors-table q n list long fits test small =
     record {
       long = omega (arith, long);
-      symbols = small-table 256 (fieldOf q .size) list long (zero-lt (fieldOf q)) small;
+      symbols = small-table n (fieldOf q .size) list long (zero-lt (fieldOf q)) small;
       at = λ y t l k. sixteen-at (yFactor q) (q * q) list test y t l k;
     }
 
@@ -72,12 +72,12 @@ lastPlace q t = 16 * (blocksOf q - 1) + t
 abbrev pub xPowerAt : ℕ → ℕ → ℕ → ℕ
 xPowerAt q x t = cond (ltb (lastPlace q t) (q * q * q)) (power (fieldOf q) x (q * q - 1 - lastPlace q t / q)) 0
 
-pub x-powers-table : (q : ℕ) (list : List ℕ) → length list ≡ 256 → 16 * (q * q) ≤ 256 → T (agrees (sixteens (xPowerAt q)) 0 (16 * (q * q)) list)
-    → T (every 256 (λ p. ltb (getD list p 0) (fieldOf q .size))) → XPowers q list
-x-powers-table q list long fits test small =
+pub x-powers-table : (q n : ℕ) (list : List ℕ) → length list ≡ n → 16 * (q * q) ≤ n → T (agrees (sixteens (xPowerAt q)) 0 (16 * (q * q)) list)
+    → T (every n (λ p. ltb (getD list p 0) (fieldOf q .size))) → XPowers q list
+x-powers-table q n list long fits test small =
     record {
       long = omega (arith, long);
-      symbols = small-table 256 (fieldOf q .size) list long (zero-lt (fieldOf q)) small;
+      symbols = small-table n (fieldOf q .size) list long (zero-lt (fieldOf q)) small;
       at = λ x t l k b. sixteen-at (xPowerAt q) (q * q) list test x t l k ∙ rw (lt-ltb (lastPlace q t) (q * q * q) b) refl;
       zeros = λ x t l k b. sixteen-at (xPowerAt q) (q * q) list test x t l k ∙ rw (le-ltb (lastPlace q t) (q * q * q) b) refl;
     }
@@ -207,13 +207,14 @@ numbers =
     each-curve (λ q. (e : ℕ) → e < q * q * q → Numbers q e)
     (λ e l. record { block = omega arith; last = omega arith; exponent = omega arith; in-y = omega arith })
     (λ e l. record { block = omega arith; last = omega arith; exponent = omega arith; in-y = omega arith })
+    (λ e l. record { block = omega arith; last = omega arith; exponent = omega arith; in-y = omega arith })
 
 first-power : (q : ℕ) → IsCurve q → (lastPlace q 0 < q * q * q) × (suc (q * q - 1 - lastPlace q 0 / q) ≡ step q)
 first-power = each-curve (λ q. (lastPlace q 0 < q * q * q) × (suc (q * q - 1 - lastPlace q 0 / q) ≡ step q))
-    (omega arith, omega arith) (omega arith, omega arith)
+    (omega arith, omega arith) (omega arith, omega arith) (omega arith, omega arith)
 
 pub grid-room : (q : ℕ) → IsCurve q → q ≤ 16 * blocksOf q
-grid-room = each-curve (λ q. q ≤ 16 * blocksOf q) (omega arith) (omega arith)
+grid-room = each-curve (λ q. q ≤ 16 * blocksOf q) (omega arith) (omega arith) (omega arith)
 
 -- sixteen that are taken from a list
 pub taken-symbols : (n at : ℕ) (list taken : List ℕ) → Below n list → taken ≡ lanes (λ t. getD list (at + t) 0) → Below n taken

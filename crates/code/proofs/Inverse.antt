@@ -8,10 +8,10 @@ use Prim.Native.Nat.{ℕ, _*_, _<_}
 use native.Mathlib.Omega.{arith}
 use lib.ListN.{length, getD}
 use lib.Seq.{ext-getD}
-use Rattle.field.specs.Curve.{IsCurve}
+use Rattle.field.specs.Curve.{isCurve, IsCurve}
 use Rattle.field.specs.Outcomes.{number}
 use Rattle.field.specs.declared.outcome.Outcome.the-variants.{Done, NoMessage}
-use Rattle.field.proofs.Curves.{sizes}
+use Rattle.field.proofs.Curves.{sizes, curve-true, curve-of-true}
 use Rattle.poly.specs.Messages.{Vector}
 use Rattle.poly.specs.Sets.{ListOf}
 use Rattle.code.specs.Points.{columnsOf}
@@ -48,7 +48,7 @@ module _ (q m : ℕ) (curve : IsCurve q) (order : m < q * q * q) where
   unfolding encoded
   encoded-word message word h =
       not-refused (encodeChecks q m message word) word (answered Done (wordOf q (columnsOf q) m message))
-      (order-passed q m (sliceChecks false (q * q) (size q m) message (q * q * q) (length word) Done) curve order
+      (order-passed (isCurve q) q m (sliceChecks false (q * q) (size q m) message (q * q * q) (length word) Done) (curve-true q curve) order
       ∙ slices-accepted false (q * q) (size q m) message (q * q * q) (length word) Done h)
 
   pub unencoded-read : (word slice : List ℕ) → Accepted false (q * q) (q * q * q) word (size q m) (length slice)
@@ -56,7 +56,7 @@ module _ (q m : ℕ) (curve : IsCurve q) (order : m < q * q * q) where
   unfolding unencoded
   unencoded-read word slice h =
       not-refused (unencodeChecks q m word slice) slice (readOver q (columnsOf q) m word slice)
-      (order-passed q m (sliceChecks false (q * q) (q * q * q) word (size q m) (length slice) Done) curve order
+      (order-passed (isCurve q) q m (sliceChecks false (q * q) (q * q * q) word (size q m) (length slice) Done) (curve-true q curve) order
       ∙ slices-accepted false (q * q) (q * q * q) word (size q m) (length slice) Done h)
 
   pub message-accepted : (message word : List ℕ) → Vector (q * q) (size q m) message → length word ≡ q * q * q
@@ -130,8 +130,9 @@ pub encode-unencode : (q m : ℕ) (word slice message room : List ℕ) → unenc
     → Vector (q * q) (size q m) message × (encoded q m message room ≡ answered Done word)
 unfolding unencoded
 encode-unencode q m word slice message room e long =
-    let past = past-checks q m false (q * q) (q * q * q) word (size q m) (length slice) slice message (readOver q (columnsOf q) m word slice) e in
-    let (curve, order, d) = order-rest q m (sliceChecks false (q * q) (q * q * q) word (size q m) (length slice) Done) (past .0) in
+    let past = past-checks (isCurve q) q m false (q * q) (q * q * q) word (size q m) (length slice) slice message (readOver q (columnsOf q) m word slice) e in
+    let (t, order, d) = order-rest (isCurve q) q m (sliceChecks false (q * q) (q * q * q) word (size q m) (length slice) Done) (past .0) in
+    let curve = curve-of-true q t in
     let h = slices-done false (q * q) (q * q * q) word (size q m) (length slice) d in
     let k = fitting-list (q * q) (size q m) (wordOf q (columnsOf q) m) word .sound message
     (found (fitting (q * q) (size q m) (wordOf q (columnsOf q) m) word) slice message (past .1)) in (

@@ -1,6 +1,6 @@
 -- The word with 0 at the gaps of a broken one, and its grid in the front of zeros.
 -- Assumes nothing.
-use mathlib.Core.List.{List, _++_}
+use mathlib.Core.List.{List}
 use mathlib.Core.Logic.{_⊎_, inl, inr}
 use mathlib.Core.Path.{_≡_, sym, ap, _∙_}
 use Prim.Native.Nat.{ℕ, zero, suc, _+_, _*_, _≤_, _<_}
@@ -8,7 +8,7 @@ use native.Mathlib.Nat.{mul-zero, mul-le-mul-right}
 use native.Mathlib.Decide.{ℕ-discrete, decLt}
 use native.Mathlib.Omega.{arith}
 use borrow.Author.Tests.{eq-eqb, ne-eqb}
-use lib.ListN.{length, getD, take, List·getD-append}
+use lib.ListN.{length, getD, take, List·getD-eq-default}
 use lib.Seq.{getD-take}
 use Rattle.field.proofs.FieldLaws.{zero-lt}
 use Rattle.field.proofs.Fields.{fieldOf}
@@ -16,9 +16,7 @@ use Rattle.field.proofs.Curves.{sizes}
 use Rattle.poly.specs.inner.Ranges.{writes}
 use Rattle.poly.specs.inner.Linear.{entry}
 use Rattle.poly.specs.inner.Rows.{stored}
-use Rattle.poly.proofs.Writes.{length-writes, writes-in, writes-out, below-writes}
-use Rattle.poly.proofs.Entries.{zeros, take-zeros}
-use Rattle.poly.proofs.Fronts.{lent-long}
+use Rattle.poly.proofs.Writes.{length-writes, writes-in, writes-out}
 use Rattle.poly.proofs.Interleaving.{place-lt}
 use Rattle.poly.proofs.Multiples.{stored-in}
 use Rattle.poly.proofs.Values.{value-cong}
@@ -26,21 +24,14 @@ use Rattle.code.specs.inner.Columns.{columnY}
 use Rattle.code.specs.inner.Readable.{WordOver, GridOf}
 use Rattle.code.specs.inner.Recovering.{BrokenOver}
 use Rattle.code.specs.inner.Gaps.{known, KnownGrid}
-use Rattle.code.proofs.Stages.{columns-short}
 
 some-column : (q n : ℕ) → 0 < q * n → 1 ≤ n
 some-column q zero l = absurd (omega (arith, mul-zero q))
 some-column q (suc n) l = omega arith
 
 module _ (q : ℕ) (columns word : List ℕ) (h : BrokenOver q columns 0 word) where
-  pub word-short : length word ≤ 64
-  word-short = omega (arith, h .long, columns-short q columns (h .over) (h .few))
-
   pub columns-some : 1 ≤ length columns
   columns-some = some-column q (length columns) (h .order)
-
-  pub columns-few : 16 * length columns ≤ 256
-  columns-few = omega (arith, h .few)
 
   -- the word is no longer than the rows of its columns
   pub word-fits : length word ≤ 16 * length columns
@@ -59,16 +50,13 @@ module _ (q : ℕ) (columns word : List ℕ) (h : BrokenOver q columns 0 word) w
       symbol p (inl e) d = absurd (d e)
       symbol p (inr l) d = l
 
-  -- the word with 0 at the gaps, written into zeros
-  module _ (filled : List ℕ) (is : filled ≡ writes (take (length word) (zeros 64)) (length word) (known word)) where
-    zeros-long : length (take (length word) (zeros 64)) ≡ length word
-    zeros-long = lent-long 64 (length word) word-short
-
+  -- the word with 0 at the gaps
+  module _ (filled₀ filled : List ℕ) (room : length filled₀ ≡ length word) (is : filled ≡ writes filled₀ (length word) (known word)) where
     pub filled-long : length filled ≡ length word
-    filled-long = ap length is ∙ length-writes _ _ (length word) ∙ zeros-long
+    filled-long = ap length is ∙ length-writes _ _ (length word) ∙ room
 
     filled-at : (p : ℕ) → p < length word → getD filled p 0 ≡ known word p
-    filled-at p l = ap (λ (x : List ℕ). getD x p 0) is ∙ writes-in _ _ (length word) p l (omega (arith, zeros-long))
+    filled-at p l = ap (λ (x : List ℕ). getD x p 0) is ∙ writes-in _ _ (length word) p l (omega arith)
 
     pub filled-over : WordOver q columns filled
     filled-over =
@@ -76,16 +64,18 @@ module _ (q : ℕ) (columns word : List ℕ) (h : BrokenOver q columns 0 word) w
           over = h .over;
           few = h .few;
           long = filled-long ∙ h .long;
-          symbols = λ i. rw is (below-writes _ _ (fieldOf q .size) (length word) (omega (arith, zeros-long))
-              (λ j. rw (take-zeros 64 (length word) j) (zero-lt (fieldOf q))) known-lt i);
+          symbols = λ p. elim (decLt p (length word)) [
+            | yes l ↦ rw (filled-at p l) (known-lt p l)
+            | no d ↦ rw (List·getD-eq-default filled 0 {n = p} (omega (arith, filled-long))) (zero-lt (fieldOf q))
+          ];
         }
 
-    -- its grid, copied from the front of an array
-    pub known-grid : (work rest grid₀ grid : List ℕ) → GridOf q columns filled (take (length filled) work) → length word ≤ length work
-        → length word ≤ length grid₀ → ((i : ℕ) → entry grid₀ i ≡ 0) → grid ≡ stored (length word) (work ++ rest) grid₀
+    -- its grid, copied
+    pub known-grid : (work grid₀ grid : List ℕ) → GridOf q columns filled (take (length filled) work) → length word ≤ length work
+        → length word ≤ length grid₀ → ((i : ℕ) → entry grid₀ i ≡ 0) → grid ≡ stored (length word) work grid₀
         → KnownGrid q columns word grid
     unfolding stored
-    known-grid work rest grid₀ grid g fits room blank is-grid =
+    known-grid work grid₀ grid g fits room blank is-grid =
         record {
           symbols = λ i. elim (decLt i (length word)) [
             | yes l ↦ rw (front i l) (g .symbols i)
@@ -101,8 +91,8 @@ module _ (q : ℕ) (columns word : List ℕ) (h : BrokenOver q columns 0 word) w
       where
         front : (i : ℕ) → i < length word → entry grid i ≡ getD (take (length filled) work) i 0
         front i l =
-            ap (λ (x : List ℕ). getD x i 0) is-grid ∙ stored-in (length word) (work ++ rest) grid₀ i l room
-            ∙ List·getD-append work rest 0 i (omega arith) ∙ sym (getD-take (length filled) work i 0 (omega (arith, filled-long)))
+            ap (λ (x : List ℕ). getD x i 0) is-grid ∙ stored-in (length word) work grid₀ i l room
+            ∙ sym (getD-take (length filled) work i 0 (omega (arith, filled-long)))
 
         after : (i : ℕ) → length word ≤ i → entry grid i ≡ 0
         after i l = ap (λ (x : List ℕ). getD x i 0) is-grid ∙ writes-out grid₀ _ (length word) i l ∙ blank i

@@ -6,6 +6,7 @@ pub mod Order
 pub mod GridLaw
 pub mod Checks
 pub mod Highest
+pub mod Traces
 pub mod Columns
 pub mod Hermitian
 pub mod Coefficients
@@ -13,8 +14,10 @@ pub mod Points
 pub mod Word
 pub mod Zeros
 pub mod YsTables
+pub mod PointTables
 pub mod Stages
 pub mod Answers
+pub mod Packed
 pub mod FullColumns
 pub mod Rows
 pub mod Fitting
@@ -24,6 +27,7 @@ pub mod Collecting
 pub mod Exponents
 pub mod Readings
 pub mod Recoveries
+pub mod LongRecoveries
 pub mod ReadingSystems
 pub mod ColumnInterpolation
 pub mod SymbolPowers

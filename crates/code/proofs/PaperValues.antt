@@ -2,7 +2,7 @@
 -- Assumes nothing.
 use mathlib.Core.Bool.{Bool, true, false}
 use mathlib.Core.List.{List, [], _∷_, _++_, map, flatMap}
-use mathlib.Core.Logic.{inl, inr}
+use mathlib.Core.Logic.{inl}
 use mathlib.Core.Path.{_≡_, refl, sym, ap, ap₂, _∙_}
 use Prim.Native.Nat.{ℕ, _*_, _+_, _<_}
 use native.Mathlib.Omega.{arith}
@@ -14,6 +14,7 @@ use Rattle.field.specs.Tests.{every}
 use Rattle.field.specs.Product.{timesZ, combine, times, inverse}
 use Rattle.field.specs.Power.{power}
 use Rattle.field.specs.Sum.{sum}
+use Rattle.field.specs.Curve.{isCurve}
 use Rattle.field.specs.Outcomes.{number, second}
 use Rattle.field.specs.declared.outcome.Outcome.the-variants.{Done}
 use Rattle.field.proofs.Search.{of-every}
@@ -21,14 +22,13 @@ use Rattle.poly.specs.Lists.{filter, below}
 use Rattle.poly.specs.Messages.{all}
 use Rattle.poly.specs.inner.Ranges.{Below}
 use Rattle.poly.specs.inner.Polynomials.{value}
-use Rattle.poly.specs.inner.Interpolation.{interleaved}
 use Rattle.code.specs.Passing.{passing}
 use Rattle.code.specs.Points.{ysOf, pointsOn, columnsOf}
 use Rattle.code.specs.Terms.{size}
 use Rattle.code.specs.Word.{valueAt, wordOf}
 use Rattle.code.specs.inner.Grid.{orderAtMost}
 use Rattle.code.specs.Checks.{orderChecks, firstBad, sliceChecks}
-use Rattle.code.specs.Answers.{Answer, answered, unlessRefused}
+use Rattle.code.specs.Answers.{Answer, unlessRefused}
 use Rattle.code.specs.Exponent.{exponentFrom, exponent}
 use Rattle.code.specs.Fitting.{agrees, fits, fitting}
 use Rattle.code.specs.Encoded.{encoded}
@@ -52,7 +52,7 @@ abbrev numbers : Answer → List ℕ
 numbers a = number (a .outcome) ∷ second (a .outcome) ∷ a .slice
 
 abbrev edge : ℕ → ℕ → List ℕ
-edge q m = number (orderChecks q m Done) ∷ []
+edge q m = number (orderChecks (isCurve q) q m Done) ∷ []
 
 abbrev room : List ℕ
 room = 9 ∷ 9 ∷ 9 ∷ []
@@ -70,6 +70,10 @@ computed =
     ∷ record { ours = numbers (recovered 2 3 (0 ∷ 1 ∷ 255 ∷ 255 ∷ 0 ∷ 255 ∷ 255 ∷ 0 ∷ []) room); paper = 0 ∷ 0 ∷ 0 ∷ 1 ∷ 1 ∷ [] }  -- H
     ∷ record { ours = map (size 4) (3 ∷ 4 ∷ 11 ∷ 37 ∷ 63 ∷ []); paper = 1 ∷ 2 ∷ 6 ∷ 32 ∷ 58 ∷ [] }  -- J
     ∷ record { ours = edge 2 7 ++ edge 2 8 ++ edge 4 63 ++ edge 4 64; paper = 0 ∷ 2 ∷ 0 ∷ 2 ∷ [] }
+    ∷ record { ours = times 6 2 32 ∷ inverse 6 2 ∷ []; paper = 3 ∷ 33 ∷ [] }  -- T-09: "z⁶ = z + 1"
+    ∷ record { ours = flat (take 8 (pointsOn 8 (columnsOf 8))); paper = 0 ∷ 0 ∷ 0 ∷ 1 ∷ 0 ∷ 14 ∷ 0 ∷ 15 ∷ 0 ∷ 22 ∷ 0 ∷ 23 ∷ 0 ∷ 24 ∷ 0 ∷ 25 ∷ [] }
+    ∷ record { ours = map (size 8) (0 ∷ 8 ∷ 54 ∷ 55 ∷ 300 ∷ 511 ∷ []); paper = 1 ∷ 2 ∷ 28 ∷ 28 ∷ 273 ∷ 484 ∷ [] }
+    ∷ record { ours = edge 8 511 ++ edge 8 512; paper = 0 ∷ 2 ∷ [] }
     ∷ []
 
 -- I: seven zeros, then 1

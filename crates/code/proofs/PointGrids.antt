@@ -15,13 +15,12 @@ use Rattle.field.specs.Curve.{IsCurve}
 use Rattle.field.proofs.Plus.{plus-self}
 use Rattle.field.proofs.FieldLaws.{zero-times, times-zero}
 use Rattle.field.proofs.Fields.{fieldOf}
-use Rattle.field.proofs.Curves.{each-curve}
+use Rattle.field.proofs.Curves.{each-curve, curve-even}
 use Rattle.poly.specs.Lists.{oneIf}
 use Rattle.poly.specs.inner.Polynomials.{value}
 use Rattle.poly.specs.inner.Indicators.{indicator}
 use Rattle.poly.proofs.Lists.{mem-getD, nodup-getD}
 use Rattle.poly.proofs.Values.{value-cong, value-scale}
-use Rattle.poly.proofs.RootInterpolation.{two-or-four}
 use Rattle.poly.proofs.Indicators.{indicator-here, indicator-there}
 use Rattle.code.specs.Points.{ysOf}
 use Rattle.code.specs.inner.Columns.{Columns, columnY}
@@ -34,7 +33,7 @@ use Rattle.code.proofs.SymbolPowers.{power-size}
 
 -- q·q is even
 half-square : (q : ℕ) → IsCurve q → (h : ℕ) × (q * q ≡ h + h) × (1 ≤ h)
-half-square = each-curve (λ q. (h : ℕ) × (q * q ≡ h + h) × (1 ≤ h)) (2, refl, omega arith) (8, refl, omega arith)
+half-square = each-curve (λ q. (h : ℕ) × (q * q ≡ h + h) × (1 ≤ h)) (2, refl, omega arith) (8, refl, omega arith) (32, refl, omega arith)
 
 module _ (q : ℕ) (columns : List ℕ) (over : Columns q columns) where
   pos : 0 < q
@@ -85,7 +84,7 @@ module _ (q : ℕ) (columns : List ℕ) (over : Columns q columns) where
 
     y-here : in-y t₀ s₀ ≡ 1
     unfolding in-y
-    y-here = let h = two-or-four q (over .curve) in indicator-here (fieldOf q) q (h .0) y₀ (h .1) (h .2)
+    y-here = let h = curve-even q (over .curve) in indicator-here (fieldOf q) q (h .0) y₀ (h .1) (h .2)
 
     y-there : (s : ℕ) → s < q → (s ≡ s₀ → ⊥) → in-y t₀ s ≡ 0
     unfolding in-y

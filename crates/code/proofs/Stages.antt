@@ -3,16 +3,16 @@
 use mathlib.Core.List.{List}
 use mathlib.Core.Path.{_≡_, refl, sym, ap, _∙_}
 use Prim.Native.Nat.{ℕ, zero, suc, _+_, _-_, _*_, _/_, _≤_, _<_}
-use native.Mathlib.Nat.{mul-suc, mul-comm, mul-le-mul, mul-le-mul-left, div-add-mod, mod-lt, div-lt-iff-lt-mul}
+use native.Mathlib.Nat.{mul-suc, mul-comm, mul-le-mul-left, div-add-mod, mod-lt, div-lt-iff-lt-mul}
 use native.Mathlib.Numerals.{add-one}
 use native.Mathlib.Decide.{decLt}
 use native.Mathlib.Omega.{arith}
 use borrow.Rule.Slice.PartMut.{putMid}
 use lib.ListN.{length, getD, List·getD-eq-default}
-use Rattle.field.specs.Curve.{IsCurve}
+use Rattle.field.specs.Curve.{IsCurve, IsShort}
 use Rattle.field.proofs.Fields.{fieldOf}
 use Rattle.field.proofs.FieldLaws.{zero-lt}
-use Rattle.field.proofs.Curves.{sizes}
+use Rattle.field.proofs.Curves.{sizes, short-sizes}
 use Rattle.poly.specs.inner.Polynomials.{value, Terms}
 use Rattle.poly.specs.inner.Linear.{entry}
 use Rattle.poly.specs.inner.Rows.{stored}
@@ -23,18 +23,19 @@ use Rattle.poly.proofs.Multiples.{length-stored, stored-in}
 use Rattle.poly.proofs.LaneLaws.{lanes-at}
 use Rattle.poly.proofs.Bools.{true-or-false}
 use Rattle.poly.proofs.Entries.{zeros, padded, below-set, below-zeros}
-use Rattle.poly.proofs.Parts.{length-part, below-back}
-use Rattle.poly.proofs.Blocks.{blocks-none, blocks-more, blocks-ext}
+use Rattle.poly.proofs.Parts.{part-at, length-part, below-part, below-back}
+use Rattle.poly.proofs.Blocks.{blocks-none, blocks-more, blocks-group, blocks-ext}
 use mathlib.Core.Logic.{inl, inr}
-use Rattle.code.specs.Points.{ysOf}
+use Rattle.code.specs.Points.{ysOf, columnsOf}
 use Rattle.code.specs.Terms.{isTerm}
 use Rattle.code.specs.Word.{valueAt, wordOf}
 use Rattle.code.specs.inner.Grid.{entryOf, rank, scatterBelow, scatter}
 use Rattle.code.specs.inner.Columns.{Columns, columnY}
-use Rattle.code.specs.inner.Encodable.{Encodable, Rowed, rowValue, inY, columnValue}
+use Rattle.code.specs.inner.Encodable.{Encodable, Staged, Rowed, rowValue, inY, columnValue, gridColumn}
 use Rattle.code.proofs.GridEntries.{scatter-zero, scatter-term, scatter-none}
 use Rattle.code.proofs.GridLaw.{two-stages}
 use Rattle.code.proofs.Columns.{length-ys, y-symbol, word-at, word-length}
+use Rattle.code.proofs.FullColumns.{length-upTo, full-columns}
 
 pub columns-below : (q : ℕ) (columns : List ℕ) → Columns q columns → Below (fieldOf q .size) columns
 columns-below q columns h t = elim (decLt t (length columns)) [
@@ -42,9 +43,12 @@ columns-below q columns h t = elim (decLt t (length columns)) [
   | no d ↦ rw (List·getD-eq-default columns 0 {n = t} (omega arith)) (zero-lt (fieldOf q))
 ]
 
--- q times the number of columns
-pub columns-short : (q : ℕ) (columns : List ℕ) → Columns q columns → length columns ≤ 16 → q * length columns ≤ 64
-columns-short q columns h few = omega (arith, mul-le-mul (sizes q (h .curve) .high) few)
+-- the places of columns are among those of the curve
+pub columns-points : (q : ℕ) (columns : List ℕ) → Columns q columns → length columns ≤ q * q → q * length columns ≤ q * q * q
+columns-points q columns h few = omega (arith, mul-le-mul-left q few, sizes q (h .curve) .grid)
+
+pub columns-short : (q : ℕ) (columns : List ℕ) → Columns q columns → IsShort q → length columns ≤ q * q → q * length columns ≤ 64
+columns-short q columns h short few = omega (arith, columns-points q columns h few, short-sizes q short .points)
 
 pub symbols-scatter : (q n : ℕ) (message : List ℕ) → Below (fieldOf q .size) message → (w : ℕ) → Below (fieldOf q .size) (scatterBelow q n message w)
 symbols-scatter q n message s zero = rw (scatter-zero q n message) (below-zeros (fieldOf q .size) n (zero-lt (fieldOf q)))
@@ -62,8 +66,8 @@ module _ (q : ℕ) (columns : List ℕ) where
     pub places-at : (t : ℕ) → getD places t 0 ≡ getD columns t 0
     places-at t = ap (λ (x : List ℕ). getD x t 0) e ∙ padded 16 (length columns) columns (omega arith) few t
 
-    pub places-below : Columns q columns → Below (fieldOf q .size) places
-    places-below h t = rw (places-at t) (columns-below q columns h t)
+    pub places-below : Below (fieldOf q .size) columns → Below (fieldOf q .size) places
+    places-below h t = rw (places-at t) (h t)
 
   pub rows-none : (n : ℕ) (grid rows : List ℕ) → Below (fieldOf q .size) rows → Rowed q columns n grid rows 0
   rows-none n grid rows small = record { values = blocks-none 16 (rowValue q columns n grid) rows; symbols = small }
@@ -125,36 +129,51 @@ rows-fit q m c pos l = rw (add-one (m / q)) (div-lt-iff-lt-mul {x = m} {y = c} p
 rows-enough : (q m : ℕ) → 0 < q → m < q * (m / q + 1)
 rows-enough q m pos = omega (arith, ap (λ (x : ℕ). q * x) (add-one (m / q)), mul-suc q (m / q), div-add-mod m q, mod-lt m pos)
 
--- both stages leave the word
-pub stages : (q : ℕ) (columns : List ℕ) (m : ℕ) (message word : List ℕ) → Encodable q columns m message word → (n : ℕ) (grid rows new : List ℕ)
-    → n ≡ m / q + 1 → grid ≡ scatter q 64 m message → Rowed q columns n grid rows q
-    → length new ≡ length word → Blocks q (columnValue q columns rows) new (length columns) → new ≡ wordOf q columns m message
-stages q columns m message word h n grid rows new is-n is-grid first long second =
+-- both stages: the polynomial of the grid at each point
+pub columns-grid : (q : ℕ) (columns : List ℕ) → length columns ≤ 16 → (n : ℕ) (grid rows word : List ℕ) → Rowed q columns n grid rows q
+    → Blocks q (columnValue q columns rows) word (length columns) → Blocks q (gridColumn q columns n grid) word (length columns)
+columns-grid q columns few n grid rows word first second =
+    record {
+      at = λ t s a b. second .at t s a b
+          ∙ value-cong (fieldOf q) q (λ j. getD rows (16 * j + t) 0) (λ j. rowValue q columns n grid j t) (columnY q columns t s)
+          (λ j k. first .values .at j t k (omega arith));
+    }
+
+-- which is the word, where the grid is that of a message
+pub stages : (q : ℕ) (columns : List ℕ) (m : ℕ) (message word : List ℕ) → Encodable q columns m message word → (size n : ℕ) (grid new : List ℕ)
+    → q * length columns ≤ size → n ≡ m / q + 1 → grid ≡ scatter q size m message
+    → length new ≡ length word → Blocks q (gridColumn q columns n grid) new (length columns) → new ≡ wordOf q columns m message
+stages q columns m message word h size n grid new fits is-n is-grid long values =
     blocks-ext q pos (length columns) f new (wordOf q columns m message) (long ∙ h .room)
-    (word-length q m (h .over .curve) message columns (h .over .small)) values
+    (word-length q m (h .over .curve) message columns (h .over .small))
+    (record { at = λ t s a b. values .at t s a b ∙ value-at t (columnY q columns t s) a })
     (record { at = λ t s a b. word-at q m (h .over .curve) message columns (h .over .small) t s a b })
   where
     pos : 0 < q
     pos = omega (arith, sizes q (h .over .curve) .low)
 
-    word-short : q * length columns ≤ 64
-    word-short = columns-short q columns (h .over) (h .few)
-
     f : ℕ → ℕ → ℕ
     f t s = valueAt q m message (getD columns t 0) (getD (ysOf q (getD columns t 0)) s 0)
 
-    -- the values of the first stage at column t are those that the second asks for
-    value-at : (t y : ℕ) → t < length columns → inY q rows t y ≡ valueAt q m message (getD columns t 0) y
+    value-at : (t y : ℕ) → t < length columns → value (fieldOf q) q (λ j. rowValue q columns n grid j t) y ≡ valueAt q m message (getD columns t 0) y
     value-at t y l =
         let x = getD columns t 0 in
-        value-cong (fieldOf q) q (λ j. getD rows (16 * j + t) 0) (λ j. value (fieldOf q) n (λ i. getD (scatter q 64 m message) (q * i + j) 0) x) y
-        (λ j b. first .values .at j t b (omega (arith, h .few)) ∙ ap (λ (g : List ℕ). value (fieldOf q) n (λ i. getD g (q * i + j) 0) x) is-grid)
-        ∙ sym (two-stages q pos n 64 m message x y
+        ap (λ (g : List ℕ). value (fieldOf q) q (λ j. rowValue q columns n g j t) y) is-grid
+        ∙ sym (two-stages q pos n size m message x y
         (omega (arith, ap (λ (k : ℕ). q * k) is-n, rows-enough q m pos))
-        (omega (arith, word-short, mul-le-mul-left q (rows-fit q m (length columns) pos (h .order)), ap (λ (k : ℕ). q * k) is-n)))
+        (omega (arith, fits, mul-le-mul-left q (rows-fit q m (length columns) pos (h .order)), ap (λ (k : ℕ). q * k) is-n)))
 
-    values : Blocks q f new (length columns)
-    values = record { at = λ t s a b. second .at t s a b ∙ value-at t (getD (ysOf q (getD columns t 0)) s 0) a }
+-- sixteen columns of more
+pub group-turn : (q : ℕ) (columns : List ℕ) (n : ℕ) (grid word last : List ℕ) (from to : ℕ) → from ≤ to → to ≤ length columns → q * to ≤ length word
+    → Blocks q (gridColumn q columns n grid) word from → length last ≡ q * to - q * from
+    → Blocks q (gridColumn q (part columns from to) n grid) last (length (part columns from to))
+    → Blocks q (gridColumn q columns n grid) (putMid (q * from) (q * to - q * from) word last) to
+group-turn q columns n grid word last from to le fits room before long group =
+    blocks-group q (gridColumn q columns n grid) word last from to le room before long
+    (λ t s a b.
+    let k : from + t < to = omega arith in
+    group .at t s (omega (arith, length-part columns from to le fits)) b
+    ∙ ap (λ (x : ℕ). value (fieldOf q) q (λ j. value (fieldOf q) n (λ i. getD grid (q * i + j) 0) x) (getD (ysOf q x) s 0)) (part-at columns from to t k))
 
 -- the y of a column are symbols
 pub ys-below : (q : ℕ) → IsCurve q → (x : ℕ) → x < q * q → Below (fieldOf q .size) (ysOf q x)
@@ -162,3 +181,42 @@ ys-below q curve x l t = elim (decLt t q) [
   | yes k ↦ y-symbol q curve x t l k
   | no d ↦ rw (List·getD-eq-default (ysOf q x) 0 {n = t} (omega (arith, length-ys q curve x l))) (zero-lt (fieldOf q))
 ]
+
+-- a curve of short blocks
+pub not-long-short : (q : ℕ) → IsCurve q → (q ≡ 8 → ⊥) → IsShort q
+not-long-short q (inl e) d = inl e
+not-long-short q (inr (inl e)) d = inr e
+not-long-short q (inr (inr e)) d = absurd (d e)
+
+pub short-narrow : (q c : ℕ) → IsCurve q → c ≤ q * q → (q ≡ 8 → ⊥) → (q ≤ 4) × (c ≤ 16)
+short-narrow q c curve few d = let z = short-sizes q (not-long-short q curve d) in (z .high, omega (arith, z .symbols))
+
+-- the grid of a message, as the stages ask for it
+module _ (q : ℕ) (columns : List ℕ) (m : ℕ) (message word : List ℕ) (h : Encodable q columns m message word) where
+  pub grid-below : (size : ℕ) (grid : List ℕ) → grid ≡ scatter q size m message → Below (fieldOf q .size) grid
+  grid-below size grid e = rw e (symbols-scatter q size message (h .symbols) (suc m))
+
+  pub grid-rows : (n : ℕ) → n ≡ m / q + 1 → (n ≤ q * q) × (q * n ≤ q * length columns)
+  grid-rows n is-n =
+      let some = rows-fit q m (length columns) (omega (arith, sizes q (h .over .curve) .low)) (h .order) in
+      (omega (arith, h .few, is-n, some), omega (arith, ap (λ (k : ℕ). q * k) is-n, mul-le-mul-left q some))
+
+  pub short-staged : IsShort q → (size : ℕ) (grid : List ℕ) → grid ≡ scatter q size m message → Staged q columns grid
+  short-staged short size grid e =
+      record {
+        curve = h .over .curve;
+        columns-below = columns-below q columns (h .over);
+        few = omega (arith, h .few, short-sizes q short .symbols);
+        symbols = grid-below size grid e;
+      }
+
+-- sixteen of all columns
+pub group-staged : (q : ℕ) → IsCurve q → (columns grid : List ℕ) (from to : ℕ) → columns ≡ columnsOf q → from ≤ to → to ≤ q * q → to ≤ from + 16
+    → Below (fieldOf q .size) grid → Staged q (part columns from to) grid
+group-staged q curve columns grid from to e le fits few small =
+    record {
+      curve = curve;
+      columns-below = below-part (fieldOf q .size) columns from to (rw e (columns-below q (columnsOf q) (full-columns q curve)));
+      few = omega (arith, length-part columns from to le (omega (arith, ap length e, length-upTo (q * q), fits)));
+      symbols = small;
+    }

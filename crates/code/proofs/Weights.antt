@@ -219,13 +219,13 @@ module _ (q : ℕ) (pos : 0 < q) where
 pub size-le : (q m : ℕ) → size q m ≤ suc m
 size-le q m = place-bound (isTerm q) (suc m)
 
-pub genus-small : (q : ℕ) → IsCurve q → curveOf q .genus ≤ 8
+pub genus-small : (q : ℕ) → IsCurve q → curveOf q .genus ≤ 32
 genus-small q curve =
     let less : q - 1 ≤ q = omega arith in
     omega (arith, twice-genus q (curve-pos q curve), mul-le-mul-left q less, sizes q curve .symbols)
 
 -- q times a remainder by q is small
-pub small-product : (q : ℕ) → IsCurve q → (w j : ℕ) → j ≡ w % q → q * j ≤ 16
+pub small-product : (q : ℕ) → IsCurve q → (w j : ℕ) → j ≡ w % q → q * j ≤ 64
 small-product q curve w j e =
     let z = sizes q curve in
     let l : j < q = rw e (mod-lt w (omega (arith, z .low))) in
@@ -233,7 +233,7 @@ small-product q curve w j e =
     omega (arith, z .symbols, mul-le-mul-left q k)
 
 -- and so is the weight of a power of y below q
-pub small-weight : (q : ℕ) → IsCurve q → (w j : ℕ) → j ≡ w % q → (q + 1) * j ≤ 20
+pub small-weight : (q : ℕ) → IsCurve q → (w j : ℕ) → j ≡ w % q → (q + 1) * j ≤ 72
 small-weight q curve w j e =
     let z = sizes q curve in
     let l : j < q = rw e (mod-lt w (omega (arith, z .low))) in

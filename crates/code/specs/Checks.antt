@@ -5,18 +5,18 @@ use mathlib.Core.List.{List}
 use Prim.Native.Nat.{ℕ}
 use lib.Dec.{eqb, leb}
 use lib.ListN.{length}
-use Rattle.field.specs.Curve.{isCurve, curveOf}
+use Rattle.field.specs.Curve.{curveOf}
 use Rattle.field.specs.Outcomes.{refuse}
 use Rattle.field.specs.declared.outcome.Outcome.{Outcome}
-use Rattle.field.specs.declared.outcome.Outcome.the-variants.{Done, BadCurve, BadOrder, BadLength, BadRoom}
+use Rattle.field.specs.declared.outcome.Outcome.the-variants.{BadCurve, BadOrder, BadLength, BadRoom}
 use Rattle.code.specs.Terms.{size}
 pub use Rattle.field.specs.Values.{badValue, valueCheck}
 unfoldable pub use Rattle.field.specs.Values.{firstBad}
 
--- "1. The curve number is neither 2 nor 4. 2. The order is n or more."
-unfoldable pub orderChecks : ℕ → ℕ → Outcome → Outcome
-orderChecks q m rest =
-    refuse (not (isCurve q)) BadCurve
+-- "1. The curve number is neither 2 nor 4. 2. The order is n or more." Which numbers a call takes, 8 too or not (T-09), is its own matter
+unfoldable pub orderChecks : Bool → ℕ → ℕ → Outcome → Outcome
+orderChecks taken q m rest =
+    refuse (not taken) BadCurve
     (refuse (leb (curveOf q .points) m) BadOrder
     rest)
 
@@ -30,8 +30,8 @@ sliceChecks gaps Q takes input writes room rest =
     rest))
 
 -- 1 to 5, of a call that decodes, which takes a word and writes a message, or encodes, which takes a message and writes a word
-abbrev pub callChecks : Bool → Bool → ℕ → ℕ → List ℕ → ℕ → Outcome
-callChecks gaps decodes q m input room =
+abbrev pub callChecks : Bool → Bool → Bool → ℕ → ℕ → List ℕ → ℕ → Outcome → Outcome
+callChecks taken gaps decodes q m input room rest =
     let n = curveOf q .points in
     let k = size q m in
-    orderChecks q m (sliceChecks gaps (curveOf q .symbols) (cond decodes n k) input (cond decodes k n) room Done)
+    orderChecks taken q m (sliceChecks gaps (curveOf q .symbols) (cond decodes n k) input (cond decodes k n) room rest)

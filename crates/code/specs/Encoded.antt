@@ -3,6 +3,7 @@ use mathlib.Core.Bool.{false}
 use mathlib.Core.List.{List}
 use Prim.Native.Nat.{ℕ}
 use lib.ListN.{length}
+use Rattle.field.specs.Curve.{isCurve}
 use Rattle.field.specs.declared.outcome.Outcome.{Outcome}
 use Rattle.field.specs.declared.outcome.Outcome.the-variants.{Done}
 use Rattle.code.specs.Points.{columnsOf}
@@ -12,7 +13,7 @@ use Rattle.code.specs.Answers.{Answer, answered, unlessRefused}
 
 -- 1, 2, 3, 4, 5
 abbrev pub encodeChecks : ℕ → ℕ → List ℕ → List ℕ → Outcome
-encodeChecks q m message word = callChecks false false q m message (length word)
+encodeChecks q m message word = callChecks (isCurve q) false false q m message (length word) Done
 
 unfoldable pub encoded : ℕ → ℕ → List ℕ → List ℕ → Answer
 encoded q m message word = unlessRefused (encodeChecks q m message word) word (answered Done (wordOf q (columnsOf q) m message))

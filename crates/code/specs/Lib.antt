@@ -1,12 +1,15 @@
 pub mod Passing
 pub mod Points
+pub mod PointTable
 pub mod Terms
 pub mod Word
 pub mod Checks
 pub mod Answers
+pub mod Packed
 pub mod Encoded
 pub mod Exponent
 pub mod Fitting
 pub mod Unencoded
 pub mod Recovered
+pub mod RecoveredLong
 pub mod inner

@@ -1,9 +1,9 @@
--- Recovery, for every argument.
+-- Recovery of short blocks, for every argument.
 use mathlib.Core.Bool.{true}
 use mathlib.Core.List.{List, [], _∷_}
 use Prim.Native.Nat.{ℕ}
 use lib.ListN.{length}
-use Rattle.field.specs.Curve.{curveOf}
+use Rattle.field.specs.Curve.{isShort, curveOf}
 use Rattle.field.specs.declared.outcome.Outcome.{Outcome}
 use Rattle.field.specs.declared.outcome.Outcome.the-variants.{Done, NoMessage, Several}
 use Rattle.code.specs.Points.{columnsOf}
@@ -36,7 +36,7 @@ answerOf (several r) slice = answered (Several r) slice
 
 -- 1, 2, 3, 4 (255 allowed), 5
 abbrev pub recoverChecks : ℕ → ℕ → List ℕ → List ℕ → Outcome
-recoverChecks q m broken slice = callChecks true true q m broken (length slice)
+recoverChecks q m broken slice = callChecks (isShort q) true true q m broken (length slice) Done
 
 unfoldable pub recovered : ℕ → ℕ → List ℕ → List ℕ → Answer
 recovered q m broken slice =

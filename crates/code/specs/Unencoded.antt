@@ -4,7 +4,7 @@ use mathlib.Core.Bool.{true, false}
 use mathlib.Core.List.{List, [], _∷_}
 use Prim.Native.Nat.{ℕ}
 use lib.ListN.{length}
-use Rattle.field.specs.Curve.{curveOf}
+use Rattle.field.specs.Curve.{isCurve, curveOf}
 use Rattle.field.specs.declared.outcome.Outcome.{Outcome}
 use Rattle.field.specs.declared.outcome.Outcome.the-variants.{Done, NoMessage}
 use Rattle.code.specs.Points.{columnsOf}
@@ -16,7 +16,7 @@ use Rattle.code.specs.Answers.{Answer, answered, unlessRefused}
 
 -- 1, 2, 3, 4 (255 is a bad value here), 5
 abbrev pub unencodeChecks : ℕ → ℕ → List ℕ → List ℕ → Outcome
-unencodeChecks q m word slice = callChecks false true q m word (length slice)
+unencodeChecks q m word slice = callChecks (isCurve q) false true q m word (length slice) Done
 
 -- of the messages that have the word (never two), the one
 abbrev pub theMessage : List (List ℕ) → List ℕ → Answer

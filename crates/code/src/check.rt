@@ -2,22 +2,25 @@
 ghost use mathlib.Core.Path.{_≡_};
 ghost use Prim.Native.Nat.{_≤_};
 ghost use lib.ListN.{length};
+ghost use mathlib.Core.Bool.{true};
+ghost use Rattle.field.specs.Curve.{IsCurve};
 ghost use Rattle.field.specs.declared.outcome.Outcome.the-variants.{Done};
 ghost use Rattle.field.specs.Values.{badValue, firstBad, valueCheck};
 ghost use Rattle.code.specs.Checks.{orderChecks, sliceChecks, callChecks};
 ghost use Rattle.code.specs.inner.Highest.{Highest};
 use crate::term;
 use field::Curve;
-use field::Named;
 use field::Outcome;
 
-// 1 and 2.
-pub fn order(q: u8, m: usize) -> Outcome
-    ensures { λ r. ⌜ r ≡ orderChecks q m Done ⌝ }
+// 1 and 2. The call says whether it takes the curve number.
+pub fn order(taken: bool, q: u8, m: usize) -> Outcome
+    requires { ⌜ (taken ≡ true → IsCurve q) ⌝ }
+    ensures { λ r. ⌜ r ≡ orderChecks taken q m Done ⌝ }
 {
-    let Named::Is(curve) = Curve::of(q) else {
+    if !taken {
         return Outcome::BadCurve;
-    };
+    }
+    let curve = Curve::at(q);
     if curve.points <= m {
         return Outcome::BadOrder;
     }
@@ -106,10 +109,19 @@ pub fn slices(
 }
 
 // 1 to 5, of a call that decodes, which takes a word and writes a message, or encodes. Gaps, which are 255, may be allowed.
-pub fn call(gaps: bool, decodes: bool, q: u8, m: usize, input: &[u8], room: usize) -> Outcome
-    ensures { λ r. ⌜ r ≡ callChecks gaps decodes q m (now (input .entry)) room ⌝ }
+pub fn call(
+    taken: bool,
+    gaps: bool,
+    decodes: bool,
+    q: u8,
+    m: usize,
+    input: &[u8],
+    room: usize,
+) -> Outcome
+    requires { ⌜ (taken ≡ true → IsCurve q) ⌝ }
+    ensures { λ r. ⌜ r ≡ callChecks taken gaps decodes q m (now (input .entry)) room Done ⌝ }
 {
-    let first = order(q, m);
+    let first = order(taken, q, m);
     let Outcome::Done = first else {
         return first;
     };

@@ -2,19 +2,21 @@
 ghost use mathlib.Core.Path.{_≡_};
 ghost use Prim.Native.Nat.{ℕ, _*_, _≤_, _<_};
 ghost use lib.ListN.{length};
-ghost use Rattle.field.specs.Curve.{IsCurve};
+ghost use Rattle.field.specs.Curve.{IsCurve, IsShort};
 ghost use Rattle.field.proofs.Fields.{fieldOf};
 ghost use Rattle.poly.specs.inner.Linear.{entry};
 ghost use Rattle.poly.specs.inner.Ranges.{Below, Blocks};
+ghost use Rattle.code.specs.Points.{columnsOf};
 ghost use Rattle.code.specs.Word.{wordOf};
-ghost use Rattle.code.specs.inner.Encodable.{Encodable, Staged, Rowed, inY, columnValue};
+ghost use Rattle.code.specs.inner.Columns.{PaddedYs};
+ghost use Rattle.code.specs.inner.Encodable.{Encodable, Staged, Rowed, inY, columnValue, gridColumn};
 ghost use Rattle.code.specs.Answers.{answered};
 ghost use Rattle.code.specs.Encoded.{encoded};
 use crate::check;
 use crate::grid;
+use crate::long_block;
 use crate::point;
 use crate::term;
-use field::Curve;
 use field::Outcome;
 use poly::lanes;
 use poly::polynomial;
@@ -34,7 +36,11 @@ fn evaluate_rows(q: u8, columns: &[u8], n: usize, grid: &[u8], rows: &mut [u8])
     while j < width {
         let end = at + 16;
         let k = polynomial::terms(grid, j, width, n);
-        let row = polynomial::evaluate(q, grid, j, width, k, &places);
+        let row = if q == 8 {
+            polynomial::evaluate_long(grid, j, width, k, &places)
+        } else {
+            polynomial::evaluate_short(q, grid, j, width, k, &places)
+        };
         rows::copy(16, &row, &mut rows[at..end]);
         at = end;
         j += 1;
@@ -48,42 +54,85 @@ fn evaluate_column(q: u8, ys: &[u8; 16], rows: &[u8], t: usize, part: &mut [u8])
     ensures { λ _. ⌜ ((s : ℕ) → s < q → entry (now (part .exit)) s ≡ inY q (now (rows .entry)) t (entry (now (ys .entry)) s)) ⌝ }
 {
     let width = q as usize;
-    let values = polynomial::evaluate(q, rows, t, 16, width, ys);
+    let values = if q == 8 {
+        polynomial::evaluate_long(rows, t, 16, width, ys)
+    } else {
+        polynomial::evaluate_short(q, rows, t, 16, width, ys)
+    };
     lanes::store(&values, part);
 }
 
 // The second stage: column by column, in the part of the word that starts at q times the column's number.
-fn evaluate_columns(q: u8, columns: &[u8], rows: &[u8], word: &mut [u8])
+fn evaluate_columns(q: u8, all: &[u8], columns: &[u8], rows: &[u8], word: &mut [u8])
     requires { ⌜ Staged q (now columns) (now rows) × (16 * q ≤ length (now rows)) × (q * length (now columns) ≤ length (now word)) ⌝ }
+    requires { ⌜ PaddedYs q (now all) ⌝ }
     ensures { λ _. ⌜ Blocks q (columnValue q (now (columns .entry)) (now (rows .entry))) (now (word .exit)) (length (now (columns .entry))) ⌝ }
 {
     let width = q as usize;
     let c = columns.len();
-    let all = point::padded_ys(q);
     let mut t = 0;
     let mut at = 0;
     while t < c {
         let from = width * (columns[t] as usize);
         let end = at + width;
-        let ys = lanes::take(&all, from);
+        let ys = lanes::take(all, from);
         evaluate_column(q, &ys, rows, t, &mut word[at..end]);
         at = end;
         t += 1;
     }
 }
 
-// The word of a message over the columns.
+// Both stages over sixteen columns at most: n coefficients of each y^j's polynomial are in the grid.
+fn write_columns(q: u8, all: &[u8], columns: &[u8], n: usize, grid: &[u8], word: &mut [u8])
+    requires { ⌜ Staged q (now columns) (now grid) × (1 ≤ n) × (q * n ≤ length (now grid)) × (length (now word) ≡ q * length (now columns)) ⌝ }
+    requires { ⌜ PaddedYs q (now all) ⌝ }
+    ensures { λ _. ⌜ Blocks q (gridColumn q (now (columns .entry)) n (now (grid .entry))) (now (word .exit)) (length (now (columns .entry))) ⌝ }
+{
+    let mut rows = [0u8; 128];
+    evaluate_rows(q, columns, n, grid, &mut rows);
+    evaluate_columns(q, all, columns, &rows, word);
+}
+
+// The word of a message over the columns of a short block.
 pub fn write_word(q: u8, columns: &[u8], m: usize, message: &[u8], word: &mut [u8])
-    requires { ⌜ Encodable q (now columns) m (now message) (now word) ⌝ }
+    requires { ⌜ Encodable q (now columns) m (now message) (now word) × IsShort q ⌝ }
     ensures { λ _. ⌜ now (word .exit) ≡ wordOf q (now (columns .entry)) m (now (message .entry)) ⌝ }
 {
     let mut grid = [0u8; 64];
     grid::scatter(q, m, message, &mut grid);
     let last = term::divide(q, m);
     let n = last.whole + 1;
-    let mut rows = [0u8; 64];
-    evaluate_rows(q, columns, n, &grid, &mut rows);
-    evaluate_columns(q, columns, &rows, word);
+    let all = point::padded_ys(q);
+    write_columns(q, &all, columns, n, &grid, word);
+}
+
+// Both stages over all columns of a long block, sixteen at a time.
+fn write_long_columns(n: usize, grid: &[u8], word: &mut [u8])
+    requires { ⌜ Below (fieldOf 8 .size) (now grid) × (1 ≤ n) × (8 * n ≤ length (now grid)) × (length (now word) ≡ 512) ⌝ }
+    ensures { λ _. ⌜ Blocks 8 (gridColumn 8 (columnsOf 8) n (now (grid .entry))) (now (word .exit)) 64 ⌝ }
+{
+    let all = point::padded_long_ys();
+    let columns = point::long_columns();
+    let mut from = 0;
+    while from < 64 {
+        let to = from + 16;
+        let at = 8 * from;
+        let end = 8 * to;
+        write_columns(8, &all, &columns[from..to], n, grid, &mut word[at..end]);
+        from = to;
+    }
+}
+
+// The word of a long block's message.
+pub fn write_long_word(m: usize, message: &[u8], word: &mut [u8])
+    requires { ⌜ Encodable 8 (columnsOf 8) m (now message) (now word) ⌝ }
+    ensures { λ _. ⌜ now (word .exit) ≡ wordOf 8 (columnsOf 8) m (now (message .entry)) ⌝ }
+{
+    let mut grid = [0u8; 512];
+    grid::scatter(8, m, message, &mut grid);
+    let last = term::divide(8, m);
+    let n = last.whole + 1;
+    write_long_columns(n, &grid, word);
 }
 
 // The word of a message, in the order of the points.
@@ -91,13 +140,17 @@ pub fn encode(q: u8, m: u16, message: &[u8], word: &mut [u8]) -> Outcome
     ensures { λ r. ⌜ encoded q m (now (message .entry)) (now (word .entry)) ≡ answered r (now (word .exit)) ⌝ }
 {
     let order = m as usize;
-    let checked = check::call(false, false, q, order, message, word.len());
+    let taken = field::curve::is_curve(q);
+    let checked = check::call(taken, false, false, q, order, message, word.len());
     let Outcome::Done = checked else {
         return checked;
     };
+    if q == 8 {
+        return long_block::run(false, order, message, word);
+    }
     let columns = point::columns();
-    let curve = Curve::at(q);
-    let c = curve.symbols as usize;
+    let width = q as usize;
+    let c = width * width;
     write_word(q, &columns[..c], order, message, word);
     Outcome::Done
 }

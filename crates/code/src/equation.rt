@@ -1,8 +1,8 @@
-// The equations that the symbols of a broken word give, in the unknown symbols of its message, brought one by one into a linear system.
+// The equations that the symbols of a short block's broken word give, in the unknown symbols of its message, brought one by one into a linear system.
 ghost use mathlib.Core.Path.{_≡_};
 ghost use Prim.Native.Nat.{_*_, _≤_, _<_};
 ghost use lib.ListN.{length};
-ghost use Rattle.field.specs.Curve.{IsCurve};
+ghost use Rattle.field.specs.Curve.{IsShort};
 ghost use Rattle.field.specs.Power.{power};
 ghost use Rattle.field.proofs.Fields.{fieldOf};
 ghost use Rattle.poly.specs.inner.Ranges.{writes, Blocks};
@@ -41,7 +41,7 @@ fn powers(q: u8, x: u8, out: &mut [u8])
 
 // The terms at the point (x, y), laid out as a grid of n rows: x^i·y^j at q * i + j.
 fn monomials(q: u8, x: u8, y: u8, n: usize, grid: &mut [u8])
-    requires { ⌜ IsCurve q × (q * n ≤ length (now grid)) ⌝ }
+    requires { ⌜ IsShort q × (q * n ≤ length (now grid)) ⌝ }
     requires { ⌜ (x < fieldOf q .size) × (y < fieldOf q .size) ⌝ }
     ensures { λ _. ⌜ Blocks q (termAt q x y) (now (grid .exit)) n ⌝ }
 {
@@ -61,7 +61,7 @@ fn monomials(q: u8, x: u8, y: u8, n: usize, grid: &mut [u8])
 
 // The equation of the symbol s at the point (x, y): the values of the terms there, whose entries in a grid are lent, and s.
 fn write_equation(q: u8, m: usize, entries: &[u16], x: u8, y: u8, s: u8, row: &mut [u8])
-    requires { ⌜ IsCurve q × (m < q * 16) × (now entries ≡ entriesOf q m) × (size q m < length (now row)) ⌝ }
+    requires { ⌜ IsShort q × (m < q * 16) × (now entries ≡ entriesOf q m) × (size q m < length (now row)) ⌝ }
     requires { ⌜ (x < fieldOf q .size) × (y < fieldOf q .size) ⌝ }
     ensures { λ _. ⌜ EquationAt q m x y s (now (row .exit)) ⌝ }
 {
@@ -84,7 +84,7 @@ fn bring_place(
     s: u8,
     work: &mut [u8],
 ) -> Effect
-    requires { ⌜ Columns q (now columns) × (p < q * length (now columns)) × (m < q * 16) × (now entries ≡ entriesOf q m) × (s < fieldOf q .size) ⌝ }
+    requires { ⌜ Columns q (now columns) × (p < q * length (now columns)) × (m < q * 16) × (now entries ≡ entriesOf q m) × (s < fieldOf q .size) × IsShort q ⌝ }
     requires { ⌜ WellFormed (fieldOf q) 64 (size q m) (now work) ⌝ }
     ensures { λ r. ⌜ WellFormed (fieldOf q) 64 (size q m) (now (work .exit)) ⌝ }
     ensures { λ r. ⌜ Brought (fieldOf q) 64 (size q m) (now (work .entry)) (equationOf q (now (columns .entry)) m p s) (now (work .exit)) r ⌝ }
@@ -112,7 +112,7 @@ pub fn step(
     rank: usize,
     work: &mut [u8],
 ) -> Progress
-    requires { ⌜ Columns q (now columns) × (p < q * length (now columns)) × (m < q * 16) × (now entries ≡ entriesOf q m) × (rank < 64) ⌝ }
+    requires { ⌜ Columns q (now columns) × (p < q * length (now columns)) × (m < q * 16) × (now entries ≡ entriesOf q m) × (rank < 64) × IsShort q ⌝ }
     requires { ⌜ ((s ≡ 255 → ⊥) → s < fieldOf q .size) ⌝ }
     requires { ⌜ WellFormed (fieldOf q) 64 (size q m) (now work) ⌝ }
     ensures { λ r. ⌜ Advanced q (now (columns .entry)) m p s rank (now (work .entry)) (now (work .exit)) (r .clash) (r .rank) ⌝ }

@@ -12,13 +12,12 @@ use field::Curve;
 
 // Lays a message out in a grid of zeros.
 pub fn scatter(q: u8, m: usize, message: &[u8], grid: &mut [u8])
-    requires { ⌜ IsCurve q × (m < length (now grid)) × (size q m ≤ length (now message)) ⌝ }
+    requires { ⌜ IsCurve q × (m < length (now grid)) × (length (now message) ≡ size q m) ⌝ }
     requires { ⌜ now grid ≡ replicate (length (now grid)) 0 ⌝ }
     ensures { λ _. ⌜ now (grid .exit) ≡ scatter q (length (now (grid .entry))) m (now (message .entry)) ⌝ }
 {
-    let k = term::size(q, m);
     let mut n = 0;
-    while n < k {
+    while n < message.len() {
         let e = term::entry(q, n);
         grid[e] = message[n];
         n += 1;

@@ -4,6 +4,7 @@ pub mod encoding;
 pub mod equation;
 pub mod grid;
 pub mod indicator;
+pub mod long_block;
 pub mod point;
 pub mod recovery;
 pub mod term;

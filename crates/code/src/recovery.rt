@@ -4,20 +4,25 @@
 ghost use mathlib.Core.Path.{_≡_};
 ghost use Prim.Native.Nat.{ℕ, _*_, _≤_, _<_};
 ghost use lib.ListN.{length};
-ghost use Rattle.field.specs.Curve.{IsCurve};
+ghost use Rattle.field.specs.Curve.{IsCurve, IsShort};
+ghost use Rattle.field.specs.inner.Halves.{halfOf};
 ghost use Rattle.field.proofs.Fields.{fieldOf};
 ghost use Rattle.poly.specs.Lists.{oneIf};
 ghost use Rattle.poly.specs.inner.Ranges.{Below, writes};
 ghost use Rattle.poly.specs.inner.Linear.{entry};
 ghost use Rattle.poly.specs.inner.Interpolation.{VanishingTree};
 ghost use Rattle.poly.specs.inner.Combinations.{rowsFrom, Eliminated};
+ghost use Rattle.poly.specs.inner.Eliminating.{Table};
 ghost use Rattle.code.specs.Terms.{size};
 ghost use Rattle.code.specs.inner.Recovering.{BrokenOver};
-ghost use Rattle.code.specs.inner.Indicators.{blocksOf};
-ghost use Rattle.code.specs.inner.Gaps.{gapsOf, known, heavy, IndicatorRows, KnownGrid};
+ghost use Rattle.code.specs.Points.{columnsOf};
+ghost use Rattle.code.specs.inner.Columns.{Ys, PaddedYs};
+ghost use Rattle.code.specs.inner.Indicators.{blocksOf, YFactors, XPowers};
+ghost use Rattle.code.specs.inner.Gaps.{gapsOf, known, heavy, IndicatorRows, KnownGrid, restAnswer};
 ghost use Rattle.code.specs.Word.{wordOf};
 ghost use Rattle.code.specs.Answers.{answered};
 ghost use Rattle.code.specs.Recovered.{reading, answerOf, recovered};
+ghost use Rattle.code.specs.RecoveredLong.{workLength, recoveredLong, KeptUnlessWorked};
 use crate::check;
 use crate::grid;
 use crate::indicator;
@@ -42,32 +47,81 @@ fn fill(word: &[u8], out: &mut [u8])
     }
 }
 
-// The grid of the word with 0 at each gap, in the front of zeros.
-fn write_grid(q: u8, columns: &[u8], tree: &[u8], word: &[u8], grid: &mut [u8])
-    requires { ⌜ BrokenOver q (now columns) 0 (now word) × VanishingTree (fieldOf q) (now columns) (now tree) ⌝ }
+// The grid of the word with 0 at each gap, in the front of zeros. The word is filled, and interpolated in work.
+fn write_grid(
+    q: u8,
+    all: &[u8],
+    columns: &[u8],
+    tree: &[u8],
+    word: &[u8],
+    filled: &mut [u8],
+    work: &mut [u8],
+    grid: &mut [u8],
+)
+    requires { ⌜ BrokenOver q (now columns) 0 (now word) × VanishingTree (fieldOf q) (now columns) (now tree) × PaddedYs q (now all) ⌝ }
+    requires { ⌜ (length (now word) ≤ length (now grid)) × ((i : ℕ) → entry (now grid) i ≡ 0) ⌝ }
+    requires { ⌜ (length (now filled) ≡ length (now word)) × (length (now work) ≡ 16 * length (now columns)) × ((i : ℕ) → entry (now work) i ≡ 0) ⌝ }
+    ensures { λ _. ⌜ KnownGrid q (now (columns .entry)) (now (word .entry)) (now (grid .exit)) ⌝ }
+{
+    fill(word, filled);
+    unencoding::interpolate(q, all, columns, tree, filled, work);
+    rows::copy(word.len(), work, grid);
+}
+
+// The same of a short block.
+fn write_short_grid(q: u8, columns: &[u8], tree: &[u8], word: &[u8], grid: &mut [u8])
+    requires { ⌜ BrokenOver q (now columns) 0 (now word) × VanishingTree (fieldOf q) (now columns) (now tree) × IsShort q ⌝ }
     requires { ⌜ (length (now word) ≤ length (now grid)) × ((i : ℕ) → entry (now grid) i ≡ 0) ⌝ }
     ensures { λ _. ⌜ KnownGrid q (now (columns .entry)) (now (word .entry)) (now (grid .exit)) ⌝ }
 {
     let n = word.len();
-    let mut filled = [0u8; 64];
-    fill(word, &mut filled[..n]);
-    let mut work = [0u8; 256];
     let end = 16 * columns.len();
-    unencoding::interpolate(q, columns, tree, &filled[..n], &mut work[..end]);
-    rows::copy(n, &work, grid);
+    let all = point::padded_ys(q);
+    let mut filled = [0u8; 64];
+    let mut work = [0u8; 256];
+    write_grid(
+        q,
+        &all,
+        columns,
+        tree,
+        word,
+        &mut filled[..n],
+        &mut work[..end],
+        grid,
+    );
+}
+
+// The same of a long block.
+fn write_long_grid(columns: &[u8], word: &[u8], grid: &mut [u8])
+    requires { ⌜ BrokenOver 8 (now columns) 0 (now word) × (now columns ≡ columnsOf 8) ⌝ }
+    requires { ⌜ (length (now grid) ≡ 512) × ((i : ℕ) → entry (now grid) i ≡ 0) ⌝ }
+    ensures { λ _. ⌜ KnownGrid 8 (now (columns .entry)) (now (word .entry)) (now (grid .exit)) ⌝ }
+{
+    let all = point::padded_long_ys();
+    let tree = point::long_tree();
+    let mut filled = [0u8; 512];
+    let mut work = [0u8; 1024];
+    write_grid(8, &all, columns, &tree, word, &mut filled, &mut work, grid);
 }
 
 // For each gap, by ascending place, the grid of the word that is 1 there and 0 elsewhere, each in the front of a row of zeros. Answers how
 // many there are.
-fn write_indicators(q: u8, columns: &[u8], word: &[u8], stride: usize, vectors: &mut [u8]) -> usize
+fn write_indicators(
+    q: u8,
+    factors: &[u8],
+    powers: &[u8],
+    ys: &[u8],
+    columns: &[u8],
+    word: &[u8],
+    stride: usize,
+    vectors: &mut [u8],
+) -> usize
+    requires { ⌜ YFactors q (now factors) × XPowers q (now powers) × Ys q (now ys) ⌝ }
     requires { ⌜ BrokenOver q (now columns) 0 (now word) × (length (now columns) ≡ q * q) × (16 * blocksOf q ≤ stride) ⌝ }
     requires { ⌜ (stride * length (now word) ≤ length (now vectors)) × ((i : ℕ) → entry (now vectors) i ≡ 0) ⌝ }
     ensures { λ r. ⌜ r ≡ length (gapsOf (now (word .entry))) ⌝ }
     ensures { λ r. ⌜ IndicatorRows q (now (columns .entry)) (gapsOf (now (word .entry))) stride (now (vectors .exit)) ⌝ }
 {
-    let factors = indicator::y_factors(q);
-    let powers = indicator::x_powers(q);
-    let ys = point::ys(q);
     let mut count = 0;
     let mut at = 0;
     let mut p = 0;
@@ -79,13 +133,39 @@ fn write_indicators(q: u8, columns: &[u8], word: &[u8], stride: usize, vectors: 
             let i = (q as usize) * (x as usize) + d.rest;
             let y = ys[i];
             let end = at + stride;
-            indicator::write(q, &factors, &powers, x, y, &mut vectors[at..end]);
+            indicator::write(q, factors, powers, x, y, &mut vectors[at..end]);
             at = end;
             count += 1;
         }
         p += 1;
     }
     count
+}
+
+// The same of a short block, in rows of 64.
+fn write_short_indicators(q: u8, columns: &[u8], word: &[u8], vectors: &mut [u8]) -> usize
+    requires { ⌜ BrokenOver q (now columns) 0 (now word) × (length (now columns) ≡ q * q) × IsShort q ⌝ }
+    requires { ⌜ (64 * length (now word) ≤ length (now vectors)) × ((i : ℕ) → entry (now vectors) i ≡ 0) ⌝ }
+    ensures { λ r. ⌜ r ≡ length (gapsOf (now (word .entry))) ⌝ }
+    ensures { λ r. ⌜ IndicatorRows q (now (columns .entry)) (gapsOf (now (word .entry))) 64 (now (vectors .exit)) ⌝ }
+{
+    let factors = indicator::y_factors(q);
+    let powers = indicator::x_powers(q);
+    let ys = point::ys(q);
+    write_indicators(q, &factors, &powers, &ys, columns, word, 64, vectors)
+}
+
+// The same of a long block, in rows of 512.
+fn write_long_indicators(columns: &[u8], word: &[u8], vectors: &mut [u8]) -> usize
+    requires { ⌜ BrokenOver 8 (now columns) 0 (now word) × (length (now columns) ≡ 64) ⌝ }
+    requires { ⌜ (512 * length (now word) ≤ length (now vectors)) × ((i : ℕ) → entry (now vectors) i ≡ 0) ⌝ }
+    ensures { λ r. ⌜ r ≡ length (gapsOf (now (word .entry))) ⌝ }
+    ensures { λ r. ⌜ IndicatorRows 8 (now (columns .entry)) (gapsOf (now (word .entry))) 512 (now (vectors .exit)) ⌝ }
+{
+    let factors = indicator::long_y_factors();
+    let powers = indicator::long_x_powers();
+    let ys = point::long_ys();
+    write_indicators(8, &factors, &powers, &ys, columns, word, 512, vectors)
 }
 
 // high[e] = 1 where the weight of entry e is above m, and 0 elsewhere. Weights are of 16 bits, so that eight are compared at once.
@@ -104,22 +184,74 @@ fn mark(q: u8, m: usize, high: &mut [u8])
     }
 }
 
-// Takes the gaps' vectors, count of them, out of the grid at the entries of a weight above m. Answers their rank at these.
-fn eliminate(q: u8, m: usize, count: usize, vectors: &mut [u8], grid: &mut [u8]) -> usize
-    requires { ⌜ IsCurve q × (m < 512) × (length (now vectors) ≡ 64 * count) × Below (fieldOf q .size) (now vectors) ⌝ }
+// Takes the gaps' vectors, count of them, out of the grid at the entries of a weight above m. Answers their rank at these. The entries are
+// marked in high, and low and top are zeros at first.
+fn eliminate(
+    q: u8,
+    m: usize,
+    count: usize,
+    high: &mut [u8],
+    low: &mut [u8],
+    top: &mut [u8],
+    vectors: &mut [u8],
+    grid: &mut [u8],
+) -> usize
+    requires { ⌜ IsCurve q × (m < 512) × (length (now high) ≤ 512) × (length (now vectors) ≡ length (now high) * count) × Below (fieldOf q .size) (now vectors) ⌝ }
+    requires { ⌜ Table (fieldOf q) (length (now high)) (halfOf q) (now low) × Table (fieldOf q) (length (now high)) (halfOf q) (now top) ⌝ }
+    requires { ⌜ (length (now grid) ≡ length (now high)) × Below (fieldOf q .size) (now grid) ⌝ }
+    ensures { λ r. ⌜ Below (fieldOf q .size) (now (grid .exit)) ⌝ }
+    ensures { λ r. ⌜ Eliminated (fieldOf q) (heavy q m) (length (now (high .entry))) count
+        (rowsFrom (length (now (high .entry))) 0 (now (vectors .entry)) (now (grid .entry))) count r
+        (rowsFrom (length (now (high .entry))) count (now (vectors .exit)) (now (grid .exit))) ⌝ }
+{
+    mark(q, m, high);
+    vectors::eliminate(q, count, high, low, top, vectors, grid)
+}
+
+// The same of a short block.
+fn eliminate_short(q: u8, m: usize, count: usize, vectors: &mut [u8], grid: &mut [u8]) -> usize
+    requires { ⌜ IsShort q × (m < 512) × (length (now vectors) ≡ 64 * count) × Below (fieldOf q .size) (now vectors) ⌝ }
     requires { ⌜ (length (now grid) ≡ 64) × Below (fieldOf q .size) (now grid) ⌝ }
     ensures { λ r. ⌜ Below (fieldOf q .size) (now (grid .exit)) ⌝ }
     ensures { λ r. ⌜ Eliminated (fieldOf q) (heavy q m) 64 count (rowsFrom 64 0 (now (vectors .entry)) (now (grid .entry))) count r
         (rowsFrom 64 count (now (vectors .exit)) (now (grid .exit))) ⌝ }
 {
     let mut high = [0u8; 64];
-    mark(q, m, &mut high);
     let mut low = [0u8; 256];
     let mut top = [0u8; 256];
-    vectors::eliminate(q, count, &high, &mut low, &mut top, vectors, grid)
+    eliminate(q, m, count, &mut high, &mut low, &mut top, vectors, grid)
 }
 
-// What the symbols of a broken word over all columns say: no message, this one, or several.
+// The same of a long block.
+fn eliminate_long(m: usize, count: usize, vectors: &mut [u8], grid: &mut [u8]) -> usize
+    requires { ⌜ (m < 512) × (length (now vectors) ≡ 512 * count) × Below (fieldOf 8 .size) (now vectors) ⌝ }
+    requires { ⌜ (length (now grid) ≡ 512) × Below (fieldOf 8 .size) (now grid) ⌝ }
+    ensures { λ r. ⌜ Below (fieldOf 8 .size) (now (grid .exit)) ⌝ }
+    ensures { λ r. ⌜ Eliminated (fieldOf 8) (heavy 8 m) 512 count (rowsFrom 512 0 (now (vectors .entry)) (now (grid .entry))) count r
+        (rowsFrom 512 count (now (vectors .exit)) (now (grid .exit))) ⌝ }
+{
+    let mut high = [0u8; 512];
+    let mut low = [0u8; 4096];
+    let mut top = [0u8; 4096];
+    eliminate(8, m, count, &mut high, &mut low, &mut top, vectors, grid)
+}
+
+// What is left of the grid, and the rank of the gaps' vectors, count of them, say: no message, this one, or several.
+fn read_rest(q: u8, m: usize, count: usize, rank: usize, grid: &[u8], message: &mut [u8]) -> Outcome
+    requires { ⌜ IsCurve q × (m < length (now grid)) × (length (now grid) ≤ 512) × (count ≤ 512) × (length (now message) ≡ size q m) ⌝ }
+    ensures { λ r. ⌜ restAnswer q m count rank (now (grid .entry)) (now (message .entry)) ≡ answered r (now (message .exit)) ⌝ }
+{
+    if grid::order_at_most(q, m, grid) {
+        if rank < count {
+            return Outcome::Several((count - rank) as u16);
+        }
+        grid::gather(q, m, grid, message);
+        return Outcome::Done;
+    }
+    Outcome::NoMessage
+}
+
+// What the symbols of a short block's broken word over all columns say.
 pub fn recover_over(
     q: u8,
     columns: &[u8],
@@ -128,25 +260,34 @@ pub fn recover_over(
     word: &[u8],
     message: &mut [u8],
 ) -> Outcome
-    requires { ⌜ BrokenOver q (now columns) m (now word) × (length (now columns) ≡ q * q) × (length (now message) ≡ size q m) ⌝ }
+    requires { ⌜ BrokenOver q (now columns) m (now word) × (length (now columns) ≡ q * q) × (length (now message) ≡ size q m) × IsShort q ⌝ }
     requires { ⌜ VanishingTree (fieldOf q) (now columns) (now tree) ⌝ }
     ensures { λ r. ⌜ answerOf (reading (fieldOf q .size) (size q m) (wordOf q (now (columns .entry)) m) (now (word .entry))) (now (message .entry))
         ≡ answered r (now (message .exit)) ⌝ }
 {
     let mut vectors = [0u8; 4096];
-    let count = write_indicators(q, columns, word, 64, &mut vectors);
+    let count = write_short_indicators(q, columns, word, &mut vectors);
     let mut grid = [0u8; 64];
-    write_grid(q, columns, tree, word, &mut grid);
+    write_short_grid(q, columns, tree, word, &mut grid);
     let end = 64 * count;
-    let rank = eliminate(q, m, count, &mut vectors[..end], &mut grid);
-    if grid::order_at_most(q, m, &grid) {
-        if rank < count {
-            return Outcome::Several((count - rank) as u16);
-        }
-        grid::gather(q, m, &grid, message);
-        return Outcome::Done;
-    }
-    Outcome::NoMessage
+    let rank = eliminate_short(q, m, count, &mut vectors[..end], &mut grid);
+    read_rest(q, m, count, rank, &grid, message)
+}
+
+// What the symbols of a long block's broken word say. The gaps' vectors stand in the front of work.
+fn recover_long_over(m: usize, word: &[u8], message: &mut [u8], work: &mut [u8]) -> Outcome
+    requires { ⌜ BrokenOver 8 (columnsOf 8) m (now word) × (length (now message) ≡ size 8 m) × (length (now work) ≡ workLength) ⌝ }
+    ensures { λ r. ⌜ answerOf (reading (fieldOf 8 .size) (size 8 m) (wordOf 8 (columnsOf 8) m) (now (word .entry))) (now (message .entry))
+        ≡ answered r (now (message .exit)) ⌝ }
+{
+    let columns = point::long_columns();
+    rows::clear(work);
+    let count = write_long_indicators(&columns, word, work);
+    let mut grid = [0u8; 512];
+    write_long_grid(&columns, word, &mut grid);
+    let end = 512 * count;
+    let rank = eliminate_long(m, count, &mut work[..end], &mut grid);
+    read_rest(8, m, count, rank, &grid, message)
 }
 
 // The message that alone fits a broken word, 255 standing for each missing symbol.
@@ -154,7 +295,8 @@ pub fn recover(q: u8, m: u16, word: &[u8], message: &mut [u8]) -> Outcome
     ensures { λ r. ⌜ recovered q m (now (word .entry)) (now (message .entry)) ≡ answered r (now (message .exit)) ⌝ }
 {
     let order = m as usize;
-    let checked = check::call(true, true, q, order, word, message.len());
+    let taken = field::curve::is_short(q);
+    let checked = check::call(taken, true, true, q, order, word, message.len());
     let Outcome::Done = checked else {
         return checked;
     };
@@ -163,4 +305,21 @@ pub fn recover(q: u8, m: u16, word: &[u8], message: &mut [u8]) -> Outcome
     let curve = Curve::at(q);
     let c = curve.symbols as usize;
     recover_over(q, &columns[..c], &tree, order, word, message)
+}
+
+// The same of a long block. What work, 262,144 bytes, holds after a success and after refusals 9 and 10 is left open; any other refusal
+// leaves it as it was.
+pub fn recover_long(m: u16, word: &[u8], message: &mut [u8], work: &mut [u8]) -> Outcome
+    ensures { λ r. ⌜ recoveredLong m (now (word .entry)) (now (message .entry)) (length (now (work .entry))) ≡ answered r (now (message .exit)) ⌝ }
+    ensures { λ r. ⌜ KeptUnlessWorked r (now (work .entry)) (now (work .exit)) ⌝ }
+{
+    let order = m as usize;
+    let checked = check::call(true, true, true, 8, order, word, message.len());
+    let Outcome::Done = checked else {
+        return checked;
+    };
+    if work.len() != 262144 {
+        return Outcome::BadWork;
+    }
+    recover_long_over(order, word, message, work)
 }

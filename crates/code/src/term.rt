@@ -14,21 +14,23 @@ pub struct Quotient {
     pub rest: usize,
 }
 
-// w divided by q, with its remainder. Each divisor is written out: the compiler then shifts and masks.
+// q = 2^bits.
+fn bits(q: u8) -> u32
+    requires { ⌜ IsCurve q ⌝ }
+    ensures { λ r. ⌜ (2 ^ r ≡ q) × (r < 8) ⌝ }
+{
+    (q / 4 + 1) as u32
+}
+
+// w divided by q, with its remainder: by a shift and a mask.
 pub fn divide(q: u8, w: usize) -> Quotient
     requires { ⌜ IsCurve q ⌝ }
     ensures { λ r. ⌜ (r .whole ≡ w / q) × (r .rest ≡ w % q) ⌝ }
 {
-    if q == 2 {
-        Quotient {
-            whole: w / 2,
-            rest: w % 2,
-        }
-    } else {
-        Quotient {
-            whole: w / 4,
-            rest: w % 4,
-        }
+    let mask = (q as usize) - 1;
+    Quotient {
+        whole: w >> bits(q),
+        rest: w & mask,
     }
 }
 
@@ -55,14 +57,14 @@ fn low_weight(q: u8, n: usize) -> usize
     requires { ⌜ IsCurve q × (n < curveOf q .genus) ⌝ }
     ensures { λ r. ⌜ WeightOfTerm q n r ⌝ }
 {
-    let curve = Curve::at(q);
+    let width = q as usize;
     let mut row = 0;
     let mut before = 0;
     while before + row < n {
         row += 1;
         before += row;
     }
-    curve.weight_x * row + (n - before)
+    width * row + (n - before)
 }
 
 // The weight of term n, the terms being counted from 0 by ascending weight.
@@ -82,10 +84,10 @@ pub fn entry(q: u8, n: usize) -> usize
     requires { ⌜ IsCurve q × (n < 2 ^ 63) ⌝ }
     ensures { λ r. ⌜ ((m : ℕ) → n < size q m → r ≡ getD (entriesOf q m) n 0) ⌝ }
 {
-    let curve = Curve::at(q);
+    let width = q as usize;
     let w = weight(q, n);
     let d = divide(q, w);
-    w - curve.weight_x * d.rest
+    w - width * d.rest
 }
 
 // Writes the entries of the terms of the order m, by ascending weight.

@@ -1,4 +1,4 @@
--- The fields of 4 and 16 elements, as instances of the laws of a field.
+-- The fields of 4, 16 and 64 elements, as instances of the laws of a field.
 -- Assumes nothing.
 use mathlib.Core.Bool.{Bool, true, false, cond}
 use mathlib.Core.Path.{_≡_, refl}
@@ -56,19 +56,24 @@ invertible4 : T (invertible 4)
 unfolding invertible
 invertible4 = tt
 
+invertible6 : T (invertible 6)
+unfolding invertible
+invertible6 = tt
+
 -- what holds of each curve's count of bits
-pub each : (P : ℕ → Type 0) → P 2 → P 4 → (q : ℕ) → P (bitsOf q)
-each P p2 p4 q = choice (eqb q 2)
+pub each : (P : ℕ → Type 0) → P 2 → P 4 → P 6 → (q : ℕ) → P (bitsOf q)
+each P p2 p4 p6 q = choice (eqb q 2) (eqb q 8)
   where
-    choice : (t : Bool) → P (cond t 2 4)
-    choice true = p2
-    choice false = p4
+    choice : (t u : Bool) → P (cond t 2 (cond u 6 4))
+    choice true u = p2
+    choice false true = p6
+    choice false false = p4
 
 pub two-bits : (q : ℕ) → 2 ≤ bitsOf q
-two-bits = each (λ e. 2 ≤ e) (lit≤ tt) (lit≤ tt)
+two-bits = each (λ e. 2 ≤ e) (lit≤ tt) (lit≤ tt) (lit≤ tt)
 
 pub bits-invertible : (q : ℕ) → T (invertible (bitsOf q))
-bits-invertible = each (λ e. T (invertible e)) invertible2 invertible4
+bits-invertible = each (λ e. T (invertible e)) invertible2 invertible4 invertible6
 
 -- the field of q^2 elements
 abbrev pub fieldOf : ℕ → Field

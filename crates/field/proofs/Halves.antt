@@ -30,29 +30,33 @@ joined-4 : T (joined 4)
 unfolding joined
 joined-4 = tt
 
+joined-6 : T (joined 6)
+unfolding joined
+joined-6 = tt
+
 pub halves : (q a : ℕ) → a < 2 ^ bitsOf q → plus (a % halfOf q) (times (bitsOf q) (halfOf q) (a / halfOf q)) ≡ a
 unfolding joined
 halves q a l =
     let half = halfOf q in
     eqb→eq (plus (a % half) (times (bitsOf q) half (a / half))) a
-    (of-every (2 ^ bitsOf q) (λ a. eqb (plus (a % half) (times (bitsOf q) half (a / half))) a) (each (λ e. T (joined e)) joined-2 joined-4 q) a l)
+    (of-every (2 ^ bitsOf q) (λ a. eqb (plus (a % half) (times (bitsOf q) half (a / half))) a) (each (λ e. T (joined e)) joined-2 joined-4 joined-6 q) a l)
 
 -- ---- the half
 
 pub half-even : (q : ℕ) → 2 * (halfOf q / 2) ≡ halfOf q
-half-even = each (λ e. 2 * (2 ^ (e / 2) / 2) ≡ 2 ^ (e / 2)) refl refl
+half-even = each (λ e. 2 * (2 ^ (e / 2) / 2) ≡ 2 ^ (e / 2)) refl refl refl
 
-pub half-le : (q : ℕ) → halfOf q ≤ 4
-half-le = each (λ e. 2 ^ (e / 2) ≤ 4) (omega arith) (omega arith)
+pub half-le : (q : ℕ) → halfOf q ≤ 8
+half-le = each (λ e. 2 ^ (e / 2) ≤ 8) (omega arith) (omega arith) (omega arith)
 
 pub two-le-half : (q : ℕ) → 2 ≤ halfOf q
-two-le-half = each (λ e. 2 ≤ 2 ^ (e / 2)) (omega arith) (omega arith)
+two-le-half = each (λ e. 2 ≤ 2 ^ (e / 2)) (omega arith) (omega arith) (omega arith)
 
 half-half : (q : ℕ) → halfOf q * halfOf q ≡ 2 ^ bitsOf q
-half-half = each (λ e. 2 ^ (e / 2) * 2 ^ (e / 2) ≡ 2 ^ e) refl refl
+half-half = each (λ e. 2 ^ (e / 2) * 2 ^ (e / 2) ≡ 2 ^ e) refl refl refl
 
 pub half-lt : (q : ℕ) → halfOf q < 2 ^ bitsOf q
-half-lt = each (λ e. 2 ^ (e / 2) < 2 ^ e) (omega arith) (omega arith)
+half-lt = each (λ e. 2 ^ (e / 2) < 2 ^ e) (omega arith) (omega arith) (omega arith)
 
 pub low-half-lt : (q a : ℕ) → a % halfOf q < halfOf q
 low-half-lt q a = mod-lt a (pow-pos (bitsOf q / 2))
@@ -75,11 +79,15 @@ shifted-4 : T (shifted 4)
 unfolding shifted
 shifted-4 = tt
 
+shifted-6 : T (shifted 6)
+unfolding shifted
+shifted-6 = tt
+
 pub is-times-two : (q a : ℕ) → a < 2 ^ bitsOf q → timesZ (bitsOf q) a ≡ times (bitsOf q) 2 a
 unfolding shifted
 is-times-two q a l =
     eqb→eq (timesZ (bitsOf q) a) (times (bitsOf q) 2 a)
-    (of-every (2 ^ bitsOf q) (λ a. eqb (timesZ (bitsOf q) a) (times (bitsOf q) 2 a)) (each (λ e. T (shifted e)) shifted-2 shifted-4 q) a l)
+    (of-every (2 ^ bitsOf q) (λ a. eqb (timesZ (bitsOf q) a) (times (bitsOf q) 2 a)) (each (λ e. T (shifted e)) shifted-2 shifted-4 shifted-6 q) a l)
 
 -- no bit comes out
 pub two-times : (q a : ℕ) → a + a < 2 ^ bitsOf q → times (bitsOf q) 2 a ≡ 2 * a

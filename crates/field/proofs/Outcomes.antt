@@ -12,7 +12,7 @@ use denote.Enum.Declared.{tagOf}
 use Rattle.field.specs.Outcomes.{number, second, Says, refuse}
 use Rattle.field.specs.declared.outcome.Outcome.{Outcome}
 use Rattle.field.specs.declared.outcome.Outcome.the-variants.{Done, BadCurve, BadOrder, BadLength, BadValue, BadRoom, BadPlace}
-use Rattle.field.specs.declared.outcome.Outcome.the-variants.{BadSymbol, NoMessage, Several, NoneNear, NoRadius, InverseOfZero}
+use Rattle.field.specs.declared.outcome.Outcome.the-variants.{BadSymbol, NoMessage, Several, NoneNear, NoRadius, InverseOfZero, BadWork}
 use Rattle.field.proofs.outcome.Outcome.{the-type}
 
 -- a check that comes out Done did not apply
@@ -26,7 +26,7 @@ outcomeOf n s =
     cond (eqb n 0) Done (cond (eqb n 1) BadCurve (cond (eqb n 2) BadOrder (cond (eqb n 3) BadLength (cond (eqb n 4) (BadValue s)
     (cond (eqb n 5) BadRoom (cond (eqb n 6) BadPlace (cond (eqb n 7) BadSymbol
     (cond (eqb n 9) NoMessage (cond (eqb n 10) (Several s)
-    (cond (eqb n 11) NoneNear (cond (eqb n 12) NoRadius InverseOfZero)))))))))))
+    (cond (eqb n 11) NoneNear (cond (eqb n 12) NoRadius (cond (eqb n 13) InverseOfZero BadWork))))))))))))
 
 outcome-of : (o : Outcome) → outcomeOf (number o) (second o) ≡ o
 unfolding outcomeOf
@@ -43,6 +43,7 @@ outcome-of (Several n) = refl
 outcome-of NoneNear = refl
 outcome-of NoRadius = refl
 outcome-of InverseOfZero = refl
+outcome-of BadWork = refl
 
 pub says : (o p : Outcome) → Says o (number p) (second p) ↔ (o ≡ p)
 says o p = (λ h. sym (outcome-of o) ∙ rw (h .0, h .1) (outcome-of p), λ e. rw e (refl, refl))
@@ -57,7 +58,7 @@ done-or-refused o = go (eqb (number o) 0) refl
 
 -- the variants other than Done, by their tags: what the arm of the others is told
 abbrev pub refusals : List ℕ
-refusals = 1 ∷ 2 ∷ 3 ∷ 4 ∷ 5 ∷ 6 ∷ 7 ∷ 8 ∷ 9 ∷ 10 ∷ 11 ∷ 12 ∷ []
+refusals = 1 ∷ 2 ∷ 3 ∷ 4 ∷ 5 ∷ 6 ∷ 7 ∷ 8 ∷ 9 ∷ 10 ∷ 11 ∷ 12 ∷ 13 ∷ []
 
 pub not-done : (o : Outcome) → OneOf refusals (tagOf the-type o) → eqb (number o) 0 ≡ false
 not-done Done k = absurd (miss refusals 0 tt k)
@@ -73,6 +74,7 @@ not-done (Several n) k = refl
 not-done NoneNear k = refl
 not-done NoRadius k = refl
 not-done InverseOfZero k = refl
+not-done BadWork k = refl
 
 -- ---- rows of checks: what follows a row that comes out Done is what the call answers; a refusal of the row is the call's
 
@@ -86,6 +88,24 @@ pub refuse-follows : (t : Bool) (r : Outcome) (row : Outcome → Outcome) → eq
     → Follows (λ rest. refuse t r (row rest))
 refuse-follows true r row n f o rest e = inr (ap (λ (x : Outcome). eqb (number x) 0) (sym e) ∙ n, e)
 refuse-follows false r row n f o rest e = f o rest e
+
+-- one row after another
+pub follows-after : (first second : Outcome → Outcome) → Follows first → Follows second → Follows (λ rest. first (second rest))
+follows-after first second f g o rest e = ⊎-elim past stopped (g (second Done) rest refl)
+  where
+    past : (second Done ≡ Done) × (second rest ≡ rest) → ((o ≡ Done) × (first (second rest) ≡ rest)) ⊎ ((eqb (number o) 0 ≡ false) × (first (second rest) ≡ o))
+    past h =
+        ⊎-elim (λ d. inl (d .0, ap first (h .1) ∙ d .1)) (λ d. inr (d .0, ap first (h .1) ∙ d .1))
+        (f o rest (ap first (sym (h .0)) ∙ e))
+
+    stopped : (eqb (number (second Done)) 0 ≡ false) × (second rest ≡ second Done)
+        → ((o ≡ Done) × (first (second rest) ≡ rest)) ⊎ ((eqb (number o) 0 ≡ false) × (first (second rest) ≡ o))
+    stopped h =
+        inr (
+          ⊎-elim (λ d. ap (λ (x : Outcome). eqb (number x) 0) (sym e ∙ d .1) ∙ h .0) (λ d. ap (λ (x : Outcome). eqb (number x) 0) (sym e ∙ d .1) ∙ d .0)
+              (f (first Done) (second Done) refl),
+          ap first (h .1) ∙ e,
+        )
 
 pub done-or-not : (o : Outcome) → o ≡ Done → eqb (number o) 0 ≡ false → ⊥
 done-or-not o e n = let f : _≡_ {A = Bool} true false = sym (ap (λ (x : Outcome). eqb (number x) 0) e) ∙ n in let z : _≡_ {A = ℕ} 0 1 = cc in

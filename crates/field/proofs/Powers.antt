@@ -1,8 +1,9 @@
 -- The laws of powers.
 -- Assumes nothing.
 use mathlib.Core.Path.{_≡_, refl, sym, ap, _∙_}
-use Prim.Native.Nat.{ℕ, zero, suc, _+_, _<_}
-use native.Mathlib.Nat.{zero-add, suc-add}
+use Prim.Native.Nat.{ℕ, zero, suc, _+_, _*_, _^_, _<_}
+use native.Mathlib.Nat.{zero-add, suc-add, pow-suc}
+use native.Mathlib.Omega.{arith}
 use native.Mathlib.Numerals.{add-one}
 use Rattle.field.specs.Field.{Field}
 use Rattle.field.specs.Power.{power}
@@ -38,3 +39,15 @@ module _ (F : Field) where
   unfolding power
   power-times a b zero = sym (F .times-one 1 (F .two-le))
   power-times a b (suc n) = ap (F .times (F .times a b)) (power-times a b n) ∙ times-exchange F a b (power F a n) (power F b n)
+
+  -- n squarings
+  unfoldable pub squared : ℕ → ℕ → ℕ
+  squared zero a = a
+  squared (suc n) a = squared n (F .times a a)
+
+  pub power-squared : (n a : ℕ) → a < F .size → power F a (2 ^ n) ≡ squared n a
+  unfolding squared
+  power-squared zero a l = power-one a l
+  power-squared (suc n) a l =
+      let e : 2 ^ n * 2 ≡ 2 ^ n + 2 ^ n = omega arith in
+      ap (power F a) (pow-suc 2 n ∙ e) ∙ power-add a (2 ^ n) (2 ^ n) ∙ sym (power-times a a (2 ^ n)) ∙ power-squared n (F .times a a) (F .times-lt a a)

@@ -4,7 +4,7 @@ use mathlib.Core.Path.{_≡_}
 use Prim.Native.Nat.{ℕ, _+_, _*_}
 use Rattle.field.specs.declared.outcome.Outcome.{Outcome}
 use Rattle.field.specs.declared.outcome.Outcome.the-variants.{Done, BadCurve, BadOrder, BadLength, BadValue, BadRoom, BadPlace}
-use Rattle.field.specs.declared.outcome.Outcome.the-variants.{BadSymbol, NoMessage, Several, NoneNear, NoRadius, InverseOfZero}
+use Rattle.field.specs.declared.outcome.Outcome.the-variants.{BadSymbol, NoMessage, Several, NoneNear, NoRadius, InverseOfZero, BadWork}
 
 -- the refusal number, and 0 for "a call that isn't refused"; "Refusal 8 no longer occurs" (T-01)
 abbrev pub number : Outcome → ℕ
@@ -21,6 +21,7 @@ number (Several r) = 10
 number NoneNear = 11
 number NoRadius = 12
 number InverseOfZero = 13
+number BadWork = 14
 
 -- "a second number, 0 unless stated"
 abbrev pub second : Outcome → ℕ
@@ -37,6 +38,7 @@ second (Several r) = r
 second NoneNear = 0
 second NoRadius = 0
 second InverseOfZero = 0
+second BadWork = 0
 
 -- an answer with these two numbers
 abbrev pub Says : Outcome → ℕ → ℕ → Type 0

@@ -1,4 +1,4 @@
--- The field of 2^e symbols in which z^e = z + 1: "For Q = 4, z² = z + 1. For Q = 16, z⁴ = z + 1."
+-- The field of 2^e symbols in which z^e = z + 1: "For Q = 4, z² = z + 1. For Q = 16, z⁴ = z + 1." "Q = 64, z⁶ = z + 1" (T-09)
 -- A symbol is a number below 2^e, "its bits the coefficients of powers of z, lowest first".
 -- The product is total on ℕ: it reads the e lowest bits of each factor.
 use mathlib.Core.Bool.{Bool, true, false}

@@ -1,6 +1,6 @@
 // Each curve's fixed numbers, by type and by q.
 ghost use mathlib.Core.Path.{_≡_};
-ghost use Rattle.field.specs.Curve.{IsCurve, curveOf, namedOf};
+ghost use Rattle.field.specs.Curve.{isCurve, isShort, IsCurve, curveOf, namedOf};
 
 // The curve y^2 + y = x^3.
 pub struct Small;
@@ -32,6 +32,21 @@ impl Large {
     pub const WEIGHT_Y: usize = 5;
 }
 
+// The curve y^8 + y = x^9, that of long blocks.
+pub struct Long;
+
+impl Long {
+    pub const Q: u8 = 64;
+
+    pub const N: usize = 512;
+
+    pub const GENUS: usize = 28;
+
+    pub const WEIGHT_X: usize = 8;
+
+    pub const WEIGHT_Y: usize = 9;
+}
+
 // The numbers of the curve q: its symbols are Q in number, its points n.
 pub struct Curve {
     pub q: u8,
@@ -53,7 +68,16 @@ impl Curve {
         requires { ⌜ IsCurve q ⌝ }
         ensures { λ r. ⌜ r ≡ curveOf q ⌝ }
     {
-        if q == 2 {
+        if q == 4 {
+            Curve {
+                q,
+                symbols: Large::Q,
+                points: Large::N,
+                genus: Large::GENUS,
+                weight_x: Large::WEIGHT_X,
+                weight_y: Large::WEIGHT_Y,
+            }
+        } else if q == 2 {
             Curve {
                 q,
                 symbols: Small::Q,
@@ -65,11 +89,11 @@ impl Curve {
         } else {
             Curve {
                 q,
-                symbols: Large::Q,
-                points: Large::N,
-                genus: Large::GENUS,
-                weight_x: Large::WEIGHT_X,
-                weight_y: Large::WEIGHT_Y,
+                symbols: Long::Q,
+                points: Long::N,
+                genus: Long::GENUS,
+                weight_x: Long::WEIGHT_X,
+                weight_y: Long::WEIGHT_Y,
             }
         }
     }
@@ -79,8 +103,28 @@ impl Curve {
         ensures { λ r. ⌜ r ≡ namedOf q ⌝ }
     {
         match q {
-            2 | 4 => Named::Is(Curve::at(q)),
+            2 | 4 | 8 => Named::Is(Curve::at(q)),
             _ => Named::Unknown,
         }
+    }
+}
+
+// Whether q is the number of a curve.
+pub fn is_curve(q: u8) -> bool
+    ensures { λ r. ⌜ r ≡ isCurve q ⌝ }
+{
+    match q {
+        2 | 4 | 8 => true,
+        _ => false,
+    }
+}
+
+// Whether q is the number of a curve of short blocks.
+pub fn is_short(q: u8) -> bool
+    ensures { λ r. ⌜ r ≡ isShort q ⌝ }
+{
+    match q {
+        2 | 4 => true,
+        _ => false,
     }
 }

@@ -1,4 +1,4 @@
-// The finite fields of 4 and 16 symbols, the numbers of their curves, and the outcomes of all entries of the library.
+// The finite fields of 4, 16 and 64 symbols, the numbers of their curves, and the outcomes of all entries of the library.
 pub mod curve;
 pub mod entry;
 pub mod outcome;

@@ -22,6 +22,8 @@ pub enum Outcome {
     NoRadius,
     // request T-06: number 13
     InverseOfZero,
+    // request T-09: number 14, a work slice of another length
+    BadWork,
 }
 
 // The refusal number, 0 for Done.
@@ -42,6 +44,7 @@ pub fn number(o: Outcome) -> u8
         Outcome::NoneNear => 11,
         Outcome::NoRadius => 12,
         Outcome::InverseOfZero => 13,
+        Outcome::BadWork => 14,
     }
 }
 
@@ -63,6 +66,7 @@ pub fn second(o: Outcome) -> u16
         Outcome::NoneNear => 0,
         Outcome::NoRadius => 0,
         Outcome::InverseOfZero => 0,
+        Outcome::BadWork => 0,
     }
 }
 

@@ -1,5 +1,6 @@
 // The library as C calls it: a slice is a pointer and a length, and both numbers of the outcome come in one.
-ghost use Rattle.hermitian.specs.Packed.{Packed, PackedMending};
+ghost use Rattle.hermitian.specs.Packed.{PackedMending};
+ghost use Rattle.code.specs.Packed.{Packed};
 ghost use Rattle.code.specs.Encoded.{encoded};
 ghost use Rattle.code.specs.Recovered.{recovered};
 ghost use Rattle.code.specs.Unencoded.{unencoded};

@@ -9,9 +9,9 @@ use native.Mathlib.Omega.{arith}
 use lib.Dec.{eqb}
 use lib.ListN.{length, take, drop}
 use lib.Seq.{length-take-le, length-front, take-at}
-use Rattle.field.specs.Curve.{IsCurve}
+use Rattle.field.specs.Curve.{IsShort}
 use Rattle.field.specs.declared.outcome.Outcome.the-variants.{Done}
-use Rattle.field.proofs.Curves.{sizes}
+use Rattle.field.proofs.Curves.{sizes, short-sizes, short-curve}
 use Rattle.poly.specs.Messages.{Vector}
 use Rattle.poly.specs.inner.Rows.{stored}
 use Rattle.code.specs.Points.{columnsOf}
@@ -27,7 +27,7 @@ use Rattle.job.specs.Opened.{openChecks}
 use Rattle.job.specs.Carried.{Result, onward, replied, carried, WrittenOnlyWithMessage}
 use Rattle.job.specs.Sound.{Standing, Sound}
 use Rattle.job.specs.inner.Bringing.{Usable, Tested, Brings, replyBy}
-use Rattle.job.proofs.Openings.{open-curve, open-order, open-broken, open-short}
+use Rattle.job.proofs.Openings.{open-block, open-order, open-broken, open-short}
 use Rattle.job.proofs.Calls.{carried-takes}
 use Rattle.job.proofs.Tellings.{gives}
 use Rattle.job.proofs.Results.{done-after, stopped-more, share-brought}
@@ -37,7 +37,7 @@ use Rattle.job.proofs.Results.{replied-message, replied-other}
 
 stored-long : (j : Job) → length (j .places) ≡ 64 → openChecks (j .q) (j .m) (storedWord j) ≡ Done → length (storedWord j) ≡ j .q * j .q * j .q
 stored-long j long passes =
-    length-take-le (j .q * j .q * j .q) (j .places) (omega (arith, sizes (j .q) (open-curve (j .q) (j .m) (storedWord j) passes) .points))
+    length-take-le (j .q * j .q * j .q) (j .places) (omega (arith, short-sizes (j .q) (open-block (j .q) (j .m) (storedWord j) passes) .points))
 
 pub sound-tested : (j : Job) → Sound j → length (j .places) ≡ 64
     → Tested (j .q) (j .m) (j .places) (j .next) (j .work) (j .candidate) (j .complete) (j .clash)
@@ -77,8 +77,8 @@ pub record Left (j : Job) (k n budget : ℕ) (work candidate whole : List ℕ) (
       work candidate whole r
 
 module _ (j : Job) (k n : ℕ) (g : Given j k n) where
-  pub curve : IsCurve (j .q)
-  curve = open-curve (j .q) (j .m) (storedWord j) (g .tested .passes)
+  pub block : IsShort (j .q)
+  block = open-block (j .q) (j .m) (storedWord j) (g .tested .passes)
 
   order : j .m < j .q * j .q * j .q
   order = open-order (j .q) (j .m) (storedWord j) (g .tested .passes)
@@ -87,7 +87,7 @@ module _ (j : Job) (k n : ℕ) (g : Given j k n) where
   short = omega (arith, g .is-k, open-short (j .q) (j .m) (storedWord j) (g .tested .passes))
 
   pub few : n ≤ 64
-  few = omega (arith, g .is-n, sizes (j .q) curve .points)
+  few = omega (arith, g .is-n, short-sizes (j .q) block .points)
 
   pub places-fit : n ≤ length (j .places)
   places-fit = omega (arith, g .places-long, few)
@@ -110,13 +110,13 @@ module _ (j : Job) (k n : ℕ) (g : Given j k n) where
   whole-taken : length (take n (j .whole)) ≡ n
   whole-taken = length-take-le n (j .whole) whole-fits
 
-  pub asked : (IsCurve (j .q) × (j .m < j .q * j .q * j .q) × BrokenOver (j .q) (columnsOf (j .q)) (j .m) (take n (j .places))
+  pub asked : (IsShort (j .q) × (j .m < j .q * j .q * j .q) × BrokenOver (j .q) (columnsOf (j .q)) (j .m) (take n (j .places))
       × (k ≡ size (j .q) (j .m)) × (j .next ≤ length (take n (j .places))))
       × ((length (take k (j .candidate)) ≡ size (j .q) (j .m)) × (length (take n (j .whole)) ≡ length (take n (j .places)))
       × Usable (j .q) (j .m) (j .work) (take k (j .candidate)) (j .complete) (j .clash))
   asked = (
     (
-      curve,
+      block,
       order,
       subst (BrokenOver (j .q) (columnsOf (j .q)) (j .m)) (sym word-is) (open-broken (j .q) (j .m) (storedWord j) (g .tested .passes)),
       g .is-k,
@@ -237,7 +237,7 @@ module _ (j : Job) (k n : ℕ) (g : Given j k n) where
         inr (
           d,
           subst (λ (x : List ℕ). Vector (j .q * j .q) (size (j .q) (j .m)) x) (sym s)
-              (subst (λ (Q : ℕ). Vector Q (size (j .q) (j .m)) candidate) (sizes (j .q) curve .size)
+              (subst (λ (Q : ℕ). Vector Q (size (j .q) (j .m)) candidate) (sizes (j .q) (short-curve (j .q) block) .size)
               (brought .message (given .clear) (omega (arith, given .full, g .is-k, brought .rows (given .clear))))),
         )
 

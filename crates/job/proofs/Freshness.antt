@@ -9,10 +9,11 @@ use native.Mathlib.Omega.{arith}
 use lib.Dec.{eqb}
 use lib.ListN.{length, getD, take, replicate, length-replicate, getD-replicate, length-append, List·getD-append}
 use lib.Seq.{ext-getD, getD-append-add, take-append-seam}
+use Rattle.field.specs.Curve.{isShort}
 use Rattle.field.specs.Outcomes.{number}
 use Rattle.field.specs.declared.outcome.Outcome.{Outcome}
 use Rattle.field.specs.declared.outcome.Outcome.the-variants.{Done}
-use Rattle.field.proofs.Curves.{sizes}
+use Rattle.field.proofs.Curves.{short-sizes}
 use Rattle.field.proofs.Fields.{fieldOf}
 use Rattle.poly.specs.inner.Linear.{entry}
 use Rattle.poly.specs.inner.Ranges.{writes}
@@ -32,7 +33,7 @@ use Rattle.job.specs.Task.{Task, storedWord, taskOf}
 use Rattle.job.specs.Opened.{fresh, openChecks, Opened, opened}
 use Rattle.job.specs.Sound.{Standing, Sound}
 use Rattle.job.specs.inner.Bringing.{Fresh}
-use Rattle.job.proofs.Openings.{blank-accepted, opened-outcome, opened-done, opened-refused, open-curve, open-short}
+use Rattle.job.proofs.Openings.{blank-accepted, opened-outcome, opened-done, opened-refused, open-block, open-short}
 
 -- ---- how one is made
 
@@ -137,10 +138,10 @@ module _ (q m : ℕ) (word : List ℕ) (o : Outcome) (said : o ≡ openChecks q 
     accepted = sym said ∙ done
 
     word-long : length word ≡ q * q * q
-    word-long = call-done true true q m word (size q m) accepted .2 .long
+    word-long = call-done (isShort q) true true q m word (size q m) accepted .2 .long
 
     pub word-short : length word ≤ 64
-    word-short = omega (arith, word-long, sizes q (open-curve q m word accepted) .points)
+    word-short = omega (arith, word-long, short-sizes q (open-block q m word accepted) .points)
 
     pub opens-fresh : (j : Job) → Fresh q m word j → Opens j
     opens-fresh j h =

@@ -4,14 +4,15 @@ use mathlib.Core.List.{List}
 use mathlib.Core.Path.{_≡_}
 use Prim.Native.Nat.{ℕ, _*_, _≤_}
 use lib.ListN.{replicate}
-use Rattle.field.specs.Curve.{IsCurve}
+use Rattle.field.specs.Curve.{isShort, IsShort}
 use Rattle.field.specs.declared.outcome.Outcome.the-variants.{BadOrder}
+use Rattle.field.proofs.Curves.{short-true}
 use Rattle.code.proofs.HighOrders.{order-high}
 use Rattle.job.specs.Opened.{fresh, openChecks, opened}
 
-module _ (q m : ℕ) (c : IsCurve q) (h : q * q * q ≤ m) (word : List ℕ) where
+module _ (q m : ℕ) (c : IsShort q) (h : q * q * q ≤ m) (word : List ℕ) where
   checks-high : openChecks q m word ≡ BadOrder
-  checks-high = order-high q m c h _
+  checks-high = order-high q m h (isShort q) (short-true q c) _
 
   pub opened-high : opened q m word ≡ record { task = fresh 2 0 (replicate 8 255); outcome = BadOrder }
   unfolding opened

@@ -8,10 +8,11 @@ use native.Mathlib.Omega.{arith}
 use borrow.Author.Tests.{eq-eqb}
 use lib.Dec.{eqb, leb, ltb}
 use lib.ListN.{length, replicate}
-use Rattle.field.specs.Curve.{IsCurve, isCurve}
+use Rattle.field.specs.Curve.{IsCurve, isShort, IsShort}
 use Rattle.field.specs.Outcomes.{number, refuse}
 use Rattle.field.specs.declared.outcome.Outcome.{Outcome}
 use Rattle.field.specs.declared.outcome.Outcome.the-variants.{Done, BadCurve, BadOrder, BadLength, BadValue, BadRoom}
+use Rattle.field.proofs.Curves.{short-curve, short-of-true, short-true}
 use Rattle.code.specs.Passing.{passing}
 use Rattle.code.specs.Points.{columnsOf}
 use Rattle.code.specs.Terms.{size}
@@ -68,28 +69,31 @@ module _ (q m : ℕ) (word : List ℕ) where
       alike : eqb (number (openChecks q m word)) 0 ≡ false → openChecks q m word ≡ recoverChecks q m word slice
       alike =
           rw (eq-eqb (size q m) (size q m) refl)
-          (go (not (isCurve q)) (leb (q * q * q) m) (not (eqb (length word) (q * q * q))) (ltb (firstBad (badValue true (q * q)) word) (length word))
+          (go (not (isShort q)) (leb (q * q * q) m) (not (eqb (length word) (q * q * q))) (ltb (firstBad (badValue true (q * q)) word) (length word))
           (not (eqb (length slice) (size q m))) (firstBad (badValue true (q * q)) word))
 
   module _ (accepted : openChecks q m word ≡ Done) where
+    pub open-block : IsShort q
+    open-block = short-of-true q (call-done (isShort q) true true q m word (size q m) accepted .0)
+
     pub open-curve : IsCurve q
-    open-curve = call-done true true q m word (size q m) accepted .0
+    open-curve = short-curve q open-block
 
     pub open-order : m < q * q * q
-    open-order = call-done true true q m word (size q m) accepted .1
+    open-order = call-done (isShort q) true true q m word (size q m) accepted .1
 
     open-word : Accepted true (q * q) (q * q * q) word (size q m) (size q m)
-    open-word = call-done true true q m word (size q m) accepted .2
+    open-word = call-done (isShort q) true true q m word (size q m) accepted .2
 
     pub open-broken : BrokenOver q (columnsOf q) m word
     open-broken = broken-over q m word (size q m) (size q m) open-curve open-order open-word
 
     pub open-short : size q m < 64
-    open-short = size-short q open-curve m open-order
+    open-short = size-short q open-block m open-order
 
     module _ (slice : List ℕ) where
       checks : recoverChecks q m word slice ≡ sliceChecks true (q * q) (q * q * q) word (size q m) (length slice) Done
-      checks = order-passed q m _ open-curve open-order
+      checks = order-passed (isShort q) q m _ (short-true q open-block) open-order
 
       -- recovery then answers by the reading, or meets 5
       pub recovers : length slice ≡ size q m → recovered q m word slice ≡ answerOf (readingOf q m word) slice

@@ -13,7 +13,7 @@ use lib.ListN.{length}
 use Rattle.field.specs.Outcomes.{number}
 use Rattle.field.specs.declared.outcome.Outcome.{Outcome}
 use Rattle.field.specs.declared.outcome.Outcome.the-variants.{Done}
-use Rattle.field.proofs.Curves.{sizes}
+use Rattle.field.proofs.Curves.{short-sizes}
 use Rattle.code.specs.Terms.{size}
 use Rattle.code.specs.Answers.{Answer, answered}
 use Rattle.code.specs.Recovered.{Reading, nothing, message, several, answerOf, recovered}
@@ -31,7 +31,7 @@ use Rattle.job.specs.Claim.{Called}
 use Rattle.job.specs.Sound.{Sound}
 use Rattle.job.specs.inner.Turns.{GivesMessage, Carries}
 use Rattle.job.proofs.Symbols.{arrived-length, below-within}
-use Rattle.job.proofs.Openings.{opened-outcome, opened-done, refused-alike, open-curve, open-broken, recovers, recovers-room}
+use Rattle.job.proofs.Openings.{opened-outcome, opened-done, refused-alike, open-block, open-curve, open-broken, recovers, recovers-room}
 use Rattle.job.proofs.Calls.{smaller-right, carried-task, carried-within, called}
 
 -- a call that starts from the job j with a slice, and hands back j′ and another slice
@@ -142,8 +142,13 @@ module _ (q m : ℕ) (word : List ℕ) (accepted : openChecks q m word ≡ Done)
 -- 255 is more than can remain
 pub budget-enough : (q m : ℕ) (word : List ℕ) → openChecks q m word ≡ Done → arrivedIn word ≤ 255
 budget-enough q m word accepted =
-    let c = open-curve q m word accepted in
-    omega (arith, arrived-length word, open-broken q m word accepted .long, full-places q c, sizes q c .points)
+    omega (
+      arith,
+      arrived-length word,
+      open-broken q m word accepted .long,
+      full-places q (open-curve q m word accepted),
+      short-sizes q (open-block q m word accepted) .points,
+    )
 
 module _ (q m : ℕ) (word : List ℕ) (o : Outcome) (slice : List ℕ) where
   -- the job of an accepted opening is of its arguments

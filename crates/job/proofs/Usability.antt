@@ -3,19 +3,19 @@
 use mathlib.Core.Bool.{Bool, true, false, cond, false≢true}
 use mathlib.Core.List.{List, [], _∷_}
 use mathlib.Core.Logic.{_↔_}
-use mathlib.Core.Path.{_≡_, refl, sym, ap, _∙_, subst}
+use mathlib.Core.Path.{_≡_, refl, sym, ap, ap₂, _∙_, subst}
 use Prim.Native.Nat.{ℕ, suc, _*_, _≤_, _<_}
 use native.Mathlib.Omega.{arith}
 use borrow.Author.Tests.{eq-eqb, eqb-true}
 use lib.Dec.{T, eqb}
 use lib.ListN.{length, getD, take}
 use lib.Seq.{length-take-le}
-use Rattle.field.specs.Curve.{IsCurve, isCurve}
+use Rattle.field.specs.Curve.{IsCurve, isShort}
 use Rattle.field.specs.Outcomes.{number}
 use Rattle.field.specs.Values.{badValue, firstBad}
 use Rattle.field.specs.declared.outcome.Outcome.{Outcome}
 use Rattle.field.specs.declared.outcome.Outcome.the-variants.{Done}
-use Rattle.field.proofs.Curves.{sizes, curve-true}
+use Rattle.field.proofs.Curves.{sizes, short-true}
 use Rattle.field.proofs.Fields.{fieldOf}
 use Rattle.field.proofs.Outcomes.{done-or-not}
 use Rattle.field.proofs.Values.{all-good, none-found, symbol-of-good, good-symbol}
@@ -28,7 +28,7 @@ use Rattle.job.specs.Opened.{openChecks}
 use Rattle.job.specs.inner.Formed.{wellFormed}
 use Rattle.job.specs.inner.Bringing.{Usable, Tested}
 use Rattle.job.proofs.Formed.{formed-curve}
-use Rattle.job.proofs.Openings.{open-curve}
+use Rattle.job.proofs.Openings.{open-block}
 
 -- ---- what a job holds besides its word
 
@@ -101,8 +101,9 @@ module _ (q : ℕ) (curve : IsCurve q) (k m : ℕ) (is-size : k ≡ size q m) (w
 -- ---- all tests
 
 -- checks 1 to 4 are those of a call with room for k
-pub opening-asked : (q m : ℕ) (word : List ℕ) (o : Outcome) (k : ℕ) → o ≡ callChecks true true q m word k → k ≡ size q m → o ≡ openChecks q m word
-opening-asked q m word o k f e = f ∙ ap (callChecks true true q m word) e
+pub opening-asked : (q m : ℕ) (word : List ℕ) (o : Outcome) (taken : Bool) (k : ℕ) → o ≡ callChecks taken true true q m word k Done → taken ≡ isShort q
+    → k ≡ size q m → o ≡ openChecks q m word
+opening-asked q m word o taken k f t e = f ∙ ap₂ (λ (b : Bool) (n : ℕ). callChecks b true true q m word n Done) t e
 
 module _ (q m : ℕ) (places : List ℕ) (next : ℕ) (work candidate : List ℕ) (complete clash : Bool) where
   abbrev All : Type 0
@@ -111,8 +112,8 @@ module _ (q m : ℕ) (places : List ℕ) (next : ℕ) (work candidate : List ℕ
   fails : (All → ⊥) → (false ≡ true) ↔ All
   fails n = (λ e. absurd (false≢true e), λ h. absurd (n h))
 
-  pub tested-curve : isCurve q ≡ false → (false ≡ true) ↔ All
-  tested-curve e = fails (λ h. false≢true (sym e ∙ curve-true q (open-curve q m (take (q * q * q) places) (h .passes))))
+  pub tested-curve : isShort q ≡ false → (false ≡ true) ↔ All
+  tested-curve e = fails (λ h. false≢true (sym e ∙ short-true q (open-block q m (take (q * q * q) places) (h .passes))))
 
   -- n is the length of the word, and o what the checks said
   module _ (n : ℕ) (is-points : n ≡ q * q * q) (o : Outcome) (f : o ≡ openChecks q m (take n places)) where

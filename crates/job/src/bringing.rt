@@ -3,7 +3,7 @@ ghost use mathlib.Core.Bool.{false, true};
 ghost use mathlib.Core.Path.{_≡_};
 ghost use Prim.Native.Nat.{_*_, _≤_, _<_};
 ghost use lib.ListN.{length};
-ghost use Rattle.field.specs.Curve.{IsCurve};
+ghost use Rattle.field.specs.Curve.{IsShort};
 ghost use Rattle.field.proofs.Fields.{fieldOf};
 ghost use Rattle.poly.specs.inner.Systems.{flat, rank, WellFormed, Full, Solves};
 ghost use Rattle.code.specs.Points.{columnsOf};
@@ -41,7 +41,7 @@ fn bring_equations(
     rows: usize,
     work: &mut [u8],
 ) -> Progress
-    requires { ⌜ BrokenOver q (now columns) m (now word) × (now entries ≡ entriesOf q m) × (next ≤ length (now word)) × (size q m < 64) ⌝ }
+    requires { ⌜ BrokenOver q (now columns) m (now word) × (now entries ≡ entriesOf q m) × (next ≤ length (now word)) × (size q m < 64) × IsShort q ⌝ }
     requires { ⌜ Ready q m (now work) rows ⌝ }
     ensures { λ r. ⌜ Counted (now (word .entry)) budget next 0 (r .next) (r .brought) ⌝ }
     ensures { λ r. ⌜ Collects q (now (columns .entry)) m (now (word .entry)) budget (now (work .entry)) next rows
@@ -102,7 +102,7 @@ fn collect(
     next: usize,
     work: &mut [u8],
 ) -> Progress
-    requires { ⌜ BrokenOver q (columnsOf q) m (now word) × (k ≡ size q m) × (size q m < 64) × (next ≤ length (now word)) ⌝ }
+    requires { ⌜ BrokenOver q (columnsOf q) m (now word) × (k ≡ size q m) × (size q m < 64) × (next ≤ length (now word)) × IsShort q ⌝ }
     requires { ⌜ WellFormed (fieldOf q) 64 (size q m) (now work) ⌝ }
     ensures { λ r. ⌜ Counted (now (word .entry)) budget next 0 (r .next) (r .brought) ⌝ }
     ensures { λ r. ⌜ Collects q (columnsOf q) m (now (word .entry)) budget (now (work .entry)) next
@@ -166,7 +166,7 @@ fn compare(word: &[u8], whole: &[u8], budget: u8, from: Progress) -> Progress
 
 // The one message of a complete system, and its word.
 fn settle(q: u8, m: usize, k: usize, work: &[u8], candidate: &mut [u8], whole: &mut [u8])
-    requires { ⌜ IsCurve q × (m < q * q * q) × (k ≡ size q m) × (length (now candidate) ≡ size q m) × (length (now whole) ≡ q * q * q) ⌝ }
+    requires { ⌜ IsShort q × (m < q * q * q) × (k ≡ size q m) × (length (now candidate) ≡ size q m) × (length (now whole) ≡ q * q * q) ⌝ }
     requires { ⌜ WellFormed (fieldOf q) 64 (size q m) (now work) × Full (size q m) (flat 64 (size q m) (now work)) ⌝ }
     ensures { λ _. ⌜ Solves (fieldOf q) (size q m) (flat 64 (size q m) (now (work .entry))) (now (candidate .exit)) ⌝ }
     ensures { λ _. ⌜ now (whole .exit) ≡ wordOf q (columnsOf q) m (now (candidate .exit)) ⌝ }
@@ -193,7 +193,7 @@ pub fn bring(
     candidate: &mut [u8],
     whole: &mut [u8],
 ) -> Progress
-    requires { ⌜ IsCurve q × (m < q * q * q) × BrokenOver q (columnsOf q) m (now word) × (k ≡ size q m) × (next ≤ length (now word)) ⌝ }
+    requires { ⌜ IsShort q × (m < q * q * q) × BrokenOver q (columnsOf q) m (now word) × (k ≡ size q m) × (next ≤ length (now word)) ⌝ }
     requires { ⌜ (length (now candidate) ≡ size q m) × (length (now whole) ≡ length (now word))
         × Usable q m (now work) (now candidate) complete clash ⌝ }
     ensures { λ r. ⌜ Brings q m (now (word .entry)) budget (now (work .entry)) (now (candidate .entry)) (now (whole .entry)) next complete clash

@@ -4,7 +4,7 @@ ghost use mathlib.Core.Logic.{_↔_};
 ghost use mathlib.Core.Path.{_≡_};
 ghost use Prim.Native.Nat.{ℕ, _<_};
 ghost use lib.ListN.{length, take};
-ghost use Rattle.field.specs.Curve.{IsCurve};
+ghost use Rattle.field.specs.Curve.{IsShort};
 ghost use Rattle.code.specs.Terms.{size};
 ghost use Rattle.job.specs.Opened.{openChecks};
 ghost use Rattle.job.specs.inner.Bringing.{Usable, Tested};
@@ -12,7 +12,6 @@ use crate::work;
 use code::check;
 use code::term;
 use field::Curve;
-use field::Named;
 use field::Outcome;
 
 // Checks 1 to 4.
@@ -20,11 +19,12 @@ pub fn opening(q: u8, m: u16, word: &[u8]) -> Outcome
     ensures { λ r. ⌜ r ≡ openChecks q m (now (word .entry)) ⌝ }
 {
     let order = m as usize;
-    let first = check::order(q, order);
+    let taken = field::curve::is_short(q);
+    let first = check::order(taken, q, order);
     let Outcome::Done = first else {
         return first;
     };
-    check::call(true, true, q, order, word, term::size(q, order))
+    check::call(taken, true, true, q, order, word, term::size(q, order))
 }
 
 // Whether what a job holds besides its word may be read: nothing after a clash, a message once its rows are complete, else a
@@ -37,7 +37,7 @@ fn is_formed(
     candidate: &[u8],
     work: &[u8; 4096],
 ) -> bool
-    requires { ⌜ IsCurve q × (k < 64) × (length (now candidate) ≡ 64) ⌝ }
+    requires { ⌜ IsShort q × (k < 64) × (length (now candidate) ≡ 64) ⌝ }
     ensures { λ r. ⌜ ((m : ℕ) → k ≡ size q m → (r ≡ true) ↔ Usable q m (now (work .entry)) (take k (now (candidate .entry))) complete clash) ⌝ }
 {
     if clash {
@@ -63,9 +63,10 @@ pub fn usable(
     requires { ⌜ (length (now places) ≡ 64) × (length (now candidate) ≡ 64) ⌝ }
     ensures { λ r. ⌜ (r ≡ true) ↔ Tested q m (now (places .entry)) next (now (work .entry)) (now (candidate .entry)) complete clash ⌝ }
 {
-    let Named::Is(curve) = Curve::of(q) else {
+    if !field::curve::is_short(q) {
         return false;
-    };
+    }
+    let curve = Curve::at(q);
     let n = curve.points;
     let Outcome::Done = opening(q, m, &places[..n]) else {
         return false;

@@ -2,7 +2,7 @@
 ghost use mathlib.Core.Path.{_≡_};
 ghost use Prim.Native.Nat.{_*_, _<_};
 ghost use lib.ListN.{length};
-ghost use Rattle.field.specs.Curve.{IsCurve};
+ghost use Rattle.field.specs.Curve.{IsShort};
 ghost use Rattle.poly.specs.inner.Systems.{flat, rank};
 ghost use Rattle.job.specs.inner.Formed.{rowFormed, rowsFormed, wellFormed};
 use code::check;
@@ -47,7 +47,7 @@ fn rows(k: usize, work: &[u8]) -> bool
 
 // Whether the slice is a well-formed system.
 pub fn formed(q: u8, k: usize, work: &[u8]) -> bool
-    requires { ⌜ IsCurve q × (k < 64) × (length (now work) ≡ 4096) ⌝ }
+    requires { ⌜ IsShort q × (k < 64) × (length (now work) ≡ 4096) ⌝ }
     ensures { λ r. ⌜ r ≡ wellFormed (q * q) 64 k (now (work .entry)) ⌝ }
 {
     if check::first_bad(false, q * q, work) < work.len() {

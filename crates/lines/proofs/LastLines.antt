@@ -36,7 +36,7 @@ module _ (block : List ℕ) (long : length block ≡ 64) where
 
   checked : (o : Outcome) → o ≡ sliceChecks true 16 64 block 32 32 Done → recoverChecks 4 37 block (replicate 32 0) ≡ o
   checked o e =
-      sym (call-past true true 4 37 block 32 o 64 32 (inr refl, omega arith) refl (sym (size-from-genus 4 (omega arith) 37 (omega arith))) e)
+      sym (call-past true true true 4 37 block 32 o 64 32 (refl, omega arith) refl (sym (size-from-genus 4 (omega arith) 37 (omega arith))) e)
 
   pub bad-exactly : ((bad < 64) × (number (outcomeOf block) ≡ 4)) ⊎ ((64 ≤ bad) × Read (number (outcomeOf block)))
   bad-exactly =

@@ -1,7 +1,7 @@
 -- What a call answers: where the checks refuse it, and past them from what its steps leave.
 -- Assumes nothing.
 use mathlib.Core.Bool.{true}
-use mathlib.Core.List.{List, []}
+use mathlib.Core.List.{List}
 use mathlib.Core.Path.{_≡_, sym, ap, _∙_}
 use Prim.Native.Nat.{ℕ, _*_, _≤_, _<_}
 use native.Mathlib.Omega.{arith}
@@ -10,7 +10,7 @@ use lib.ListN.{length}
 use Rattle.field.specs.Outcomes.{number}
 use Rattle.field.specs.declared.outcome.Outcome.{Outcome}
 use Rattle.field.specs.declared.outcome.Outcome.the-variants.{Done, NoneNear}
-use Rattle.field.proofs.Curves.{sizes}
+use Rattle.field.proofs.Curves.{short-curve, short-sizes}
 use Rattle.field.proofs.Outcomes.{not-done}
 use Rattle.code.specs.Points.{columnsOf}
 use Rattle.code.specs.Word.{wordOf}
@@ -38,7 +38,7 @@ module _ (q m : ℕ) (word message codeword marks : List ℕ) (e : mendChecks q 
   order = omega (arith, passed .mendable .order)
 
   pub word-short : length word ≤ 64
-  word-short = omega (arith, passed .mendable .long, sizes q (passed .mendable .curve) .points)
+  word-short = omega (arith, passed .mendable .long, short-sizes q (passed .mendable .curve) .points)
 
   pub message-short : length message ≤ 64
   message-short = omega (arith, passed .message-long, size-short q (passed .mendable .curve) m order)
@@ -48,8 +48,8 @@ module _ (q m : ℕ) (word message codeword marks : List ℕ) (e : mendChecks q 
     -- it can be encoded
     pub only-encodable : (lent : List ℕ) → length lent ≡ length word → Encodable q (columnsOf q) m v lent
     only-encodable lent l =
-        encodable q m v lent (passed .mendable .curve) order
-        (message-accepted q m (passed .mendable .curve) order v lent (only .0) (l ∙ passed .mendable .long))
+        encodable q m v lent (short-curve q (passed .mendable .curve)) order
+        (message-accepted q m (short-curve q (passed .mendable .curve)) order v lent (only .0) (l ∙ passed .mendable .long))
 
     -- w is its word, which differs in count places
     module _ (t : ℕ) (t-is : t ≡ radius q m) (w : List ℕ) (w-is : w ≡ wordOf q (columnsOf q) m v)
@@ -67,7 +67,7 @@ module _ (q m : ℕ) (word message codeword marks : List ℕ) (e : mendChecks q 
           omega (arith, h .within, same, distance, t-is))
 
       pub count-small : count ≤ t → count ≤ 64
-      count-small l = omega (arith, t-is, sizes q (passed .mendable .curve) .points)
+      count-small l = omega (arith, t-is, short-sizes q (passed .mendable .curve) .points)
 
       pub answered-near : count ≤ t → (message′ codeword′ marks′ : List ℕ) → message′ ≡ v → codeword′ ≡ w → marks′ ≡ marksOf word w
           → mended q m word message codeword marks ≡ answered Done count message′ codeword′ marks′

@@ -11,6 +11,7 @@ use Rattle.field.specs.Outcomes.{number}
 use Rattle.field.specs.declared.outcome.Outcome.{Outcome}
 use Rattle.field.specs.declared.outcome.Outcome.the-variants.{Done}
 use Rattle.field.proofs.Outcomes.{done-or-not}
+use Rattle.field.proofs.Curves.{short-curve}
 use Rattle.poly.specs.Messages.{Vector}
 use Rattle.code.specs.Points.{columnsOf}
 use Rattle.code.specs.Terms.{size}
@@ -60,7 +61,7 @@ module _ (q m : ℕ) (word : List ℕ) (ok : Mendable q m word) where
       let (h, again) = encode-unencode q m word slice got word e (ok .long) in (
         h,
         ap (λ (x : Answer). x .slice)
-            (sym (encoded-word q m (ok .curve) low got word (message-accepted q m (ok .curve) low got word h (ok .long))) ∙ again),
+            (sym (encoded-word q m (short-curve q (ok .curve)) low got word (message-accepted q m (short-curve q (ok .curve)) low got word h (ok .long))) ∙ again),
       )
 
   -- the word can be unencoded
@@ -79,5 +80,5 @@ module _ (q m : ℕ) (word : List ℕ) (ok : Mendable q m word) where
   unencoded-only slice got o l e d =
       let low : m < q * q * q = omega (arith, ok .order) in
       let (h, is) = own-message slice got
-      (unencoded-read q m (ok .curve) low word slice (word-accepted slice l) ∙ e ∙ ap (λ (x : Outcome). answered x got) d) in
+      (unencoded-read q m (short-curve q (ok .curve)) low word slice (word-accepted slice l) ∙ e ∙ ap (λ (x : Outcome). answered x got) d) in
       (h, λ v near. never-two q m word ok v got near (codeword-near q m word ok got h is))

@@ -6,11 +6,12 @@ use mathlib.Core.Path.{_≡_, sym, ap₂, _∙_}
 use Prim.Native.Nat.{ℕ, _-_, _*_, _≤_, _<_}
 use borrow.Author.Tests.{lt-ltb, le-ltb, eq-eqb, ne-eqb}
 use lib.Dec.{eqb}
-use Rattle.field.specs.Curve.{IsCurve, curveOf}
+use Rattle.field.specs.Curve.{isShort, IsShort, curveOf}
 use Rattle.field.specs.Outcomes.{refuse}
 use Rattle.field.specs.declared.curve.Curve.{Curve}
 use Rattle.field.specs.declared.outcome.Outcome.{Outcome}
 use Rattle.field.specs.declared.outcome.Outcome.the-variants.{Done, BadRoom, NoRadius}
+use Rattle.field.proofs.Curves.{short-true}
 use Rattle.field.proofs.Outcomes.{row-refused, row-passed}
 use Rattle.code.specs.Terms.{size}
 use Rattle.code.specs.Checks.{orderChecks, sliceChecks}
@@ -28,14 +29,14 @@ slices-of-curve q m word message v v-is k k-is o e =
 
 module _ (q m : ℕ) (word : List ℕ) (message codeword marks : ℕ) where
   -- a refusal by 1 and 2 is the call's
-  pub refused-order : (o : Outcome) → o ≡ orderChecks q m Done → Refused o → o ≡ mendChecks q m word message codeword marks
+  pub refused-order : (o : Outcome) → o ≡ orderChecks (isShort q) q m Done → Refused o → o ≡ mendChecks q m word message codeword marks
   unfolding mendChecks
-  refused-order o e r = order-refused q m o e r _
+  refused-order o e r = order-refused (isShort q) q m o e r _
 
-  module _ (curve : IsCurve q) (order : m < q * q * q) where
+  module _ (curve : IsShort q) (order : m < q * q * q) where
     pub refused-radius : q * q * q - m - 1 < genus q → NoRadius ≡ mendChecks q m word message codeword marks
     unfolding mendChecks
-    refused-radius l = sym (order-passed q m _ curve order ∙ rw (lt-ltb (q * q * q - m - 1) (genus q) l))
+    refused-radius l = sym (order-passed (isShort q) q m _ (short-true q curve) order ∙ rw (lt-ltb (q * q * q - m - 1) (genus q) l))
 
     abbrev row : Outcome → Outcome
     row = sliceChecks false (q * q) (q * q * q) word (size q m) message
@@ -50,7 +51,7 @@ module _ (q m : ℕ) (word : List ℕ) (message codeword marks : ℕ) where
     module _ (far : genus q ≤ q * q * q - m - 1) (o : Outcome) (e : o ≡ row Done) where
       past-radius : mendChecks q m word message codeword marks ≡ row rooms
       unfolding mendChecks
-      past-radius = order-passed q m _ curve order ∙ rw (le-ltb (q * q * q - m - 1) (genus q) far)
+      past-radius = order-passed (isShort q) q m _ (short-true q curve) order ∙ rw (le-ltb (q * q * q - m - 1) (genus q) far)
 
       pub refused-slices : Refused o → o ≡ mendChecks q m word message codeword marks
       refused-slices r =

@@ -6,12 +6,12 @@ use mathlib.Core.Path.{_≡_}
 use Prim.Native.Nat.{ℕ, suc, _+_, _-_, _*_, _/_, _≤_, _<_}
 use native.Mathlib.Decide.{le-ind, decLe}
 use native.Mathlib.Omega.{arith}
-use Rattle.field.specs.Curve.{IsCurve}
-use Rattle.field.proofs.Curves.{each-curve}
+use Rattle.field.specs.Curve.{IsCurve, IsShort}
+use Rattle.field.proofs.Curves.{each-curve, each-short, short-curve}
 use Rattle.poly.proofs.Bools.{true-or-false}
 use Rattle.code.specs.Terms.{isTerm, size}
 use Rattle.code.proofs.Passing.{place, place-true, place-false}
-use Rattle.code.proofs.Weights.{curve-pos, twice-genus, genus-small, size-from-genus, size-le}
+use Rattle.code.proofs.Weights.{curve-pos, twice-genus, size-from-genus, size-le}
 use Rattle.mend.specs.Mended.{radius}
 use Rattle.mend.specs.inner.Locating.{genus, reach}
 
@@ -25,7 +25,7 @@ place-grows p a b l =
 
 -- the last number that is no weight is below this
 all-weights : (q : ℕ) → IsCurve q → (w : ℕ) × (suc w ≡ q * (q - 1))
-all-weights = each-curve (λ q. (w : ℕ) × (suc w ≡ q * (q - 1))) (1, omega arith) (11, omega arith)
+all-weights = each-curve (λ q. (w : ℕ) × (suc w ≡ q * (q - 1))) (1, omega arith) (11, omega arith) (55, omega arith)
 
 -- k(s) ≥ s + 1 - g
 pub size-genus : (q : ℕ) → IsCurve q → (s : ℕ) → s + 1 ≤ size q s + genus q
@@ -44,24 +44,27 @@ radius-lt q curve m = omega (arith, size-genus q curve (reach q m))
 pub reach-lt : (q m : ℕ) → m + 1 + genus q ≤ q * q * q → reach q m < q * q * q
 reach-lt q m low = omega arith
 
--- t ≤ 28
-radius-short : (q : ℕ) → IsCurve q → (m : ℕ) → radius q m ≤ 28
-radius-short = each-curve (λ q. (m : ℕ) → radius q m ≤ 28) (λ m. omega arith) (λ m. omega arith)
+-- of short blocks: g ≤ 8, t ≤ 28
+genus-short : (q : ℕ) → IsShort q → genus q ≤ 8
+genus-short = each-short (λ q. genus q ≤ 8) (omega arith) (omega arith)
+
+radius-short : (q : ℕ) → IsShort q → (m : ℕ) → radius q m ≤ 28
+radius-short = each-short (λ q. (m : ℕ) → radius q m ≤ 28) (λ m. omega arith) (λ m. omega arith)
 
 -- k(s) < 32: an array of that length has room for f, and for one number more
-pub reach-size : (q : ℕ) → IsCurve q → (m : ℕ) → size q (reach q m) < 32
+pub reach-size : (q : ℕ) → IsShort q → (m : ℕ) → size q (reach q m) < 32
 reach-size q curve m =
     elim (decLe (q * (q - 1)) (reach q m + 1)) [
-      | yes l ↦ omega (arith, size-from-genus q (curve-pos q curve) (reach q m) l, radius-short q curve m)
-      | no d ↦ omega (arith, size-le q (reach q m), twice-genus q (curve-pos q curve), genus-small q curve)
+      | yes l ↦ omega (arith, size-from-genus q (curve-pos q (short-curve q curve)) (reach q m) l, radius-short q curve m)
+      | no d ↦ omega (arith, size-le q (reach q m), twice-genus q (curve-pos q (short-curve q curve)), genus-short q curve)
     ]
 
 -- s < 64, so that s / q + 1 is at most 16, and at most 9 for q = 4: as many powers of x are needed for each of the q powers of y
-pub reach-short : (q : ℕ) → IsCurve q → (m : ℕ) → reach q m < 64
-reach-short q curve m = omega (arith, radius-short q curve m, genus-small q curve)
+pub reach-short : (q : ℕ) → IsShort q → (m : ℕ) → reach q m < 64
+reach-short q curve m = omega (arith, radius-short q curve m, genus-short q curve)
 
-pub reach-count : (q : ℕ) → IsCurve q → (m : ℕ) → reach q m / q + 1 ≤ 16
-reach-count = each-curve (λ q. (m : ℕ) → reach q m / q + 1 ≤ 16) (λ m. omega arith) (λ m. omega arith)
+pub reach-count : (q : ℕ) → IsShort q → (m : ℕ) → reach q m / q + 1 ≤ 16
+reach-count = each-short (λ q. (m : ℕ) → reach q m / q + 1 ≤ 16) (λ m. omega arith) (λ m. omega arith)
 
-pub reach-grids : (q : ℕ) → IsCurve q → (m : ℕ) → 64 * (reach q m / q + 1) * q ≤ 2304
-reach-grids = each-curve (λ q. (m : ℕ) → 64 * (reach q m / q + 1) * q ≤ 2304) (λ m. omega arith) (λ m. omega arith)
+pub reach-grids : (q : ℕ) → IsShort q → (m : ℕ) → 64 * (reach q m / q + 1) * q ≤ 2304
+reach-grids = each-short (λ q. (m : ℕ) → 64 * (reach q m / q + 1) * q ≤ 2304) (λ m. omega arith) (λ m. omega arith)

@@ -8,7 +8,7 @@ use native.Mathlib.Decide.{ℕ-discrete}
 use native.Mathlib.Omega.{arith}
 use borrow.Author.Tests.{eq-eqb, ne-eqb}
 use lib.ListN.{length, getD, take}
-use Rattle.field.proofs.Curves.{sizes}
+use Rattle.field.proofs.Curves.{sizes, short-curve}
 use Rattle.poly.specs.inner.Ranges.{writes}
 use Rattle.poly.proofs.Writes.{length-writes, writes-in}
 use Rattle.code.specs.Points.{columnsOf}
@@ -49,7 +49,7 @@ module _ (q m : ℕ) (word : List ℕ) (ok : Mendable q m word) where
   locator-encodable s f front is loc long =
       let low = reach-lt q m (ok .order) in
       subst (λ (s : ℕ). Encodable q (columnsOf q) s f front) (sym is)
-      (encodable q (reach q m) f front (ok .curve) low (message-accepted q (reach q m) (ok .curve) low f front (loc .vector) (long ∙ ok .long)))
+      (encodable q (reach q m) f front (short-curve q (ok .curve)) low (message-accepted q (reach q m) (short-curve q (ok .curve)) low f front (loc .vector) (long ∙ ok .long)))
 
   -- it is encoded into the front of an array, and erased there
   pub erased-front : (s : ℕ) (f located rest broken : List ℕ) → s ≡ reach q m → length located ≡ length word
@@ -73,9 +73,9 @@ module _ (q m : ℕ) (word : List ℕ) (ok : Mendable q m word) where
     pub erased-broken : BrokenOver q (columnsOf q) m broken
     erased-broken =
         record {
-          over = full-columns q (ok .curve);
-          few = omega (arith, length-upTo (q * q), sizes q (ok .curve) .symbols);
-          order = omega (arith, full-places q (ok .curve), ok .order);
-          long = er .long ∙ sym (full-places q (ok .curve));
-          value = λ p l. ⊎-elim inl (λ b. inr (omega (arith, sizes q (ok .curve) .size))) (erased-value p (omega (arith, er .long)));
+          over = full-columns q (short-curve q (ok .curve));
+          few = omega (arith, length-upTo (q * q));
+          order = omega (arith, full-places q (short-curve q (ok .curve)), ok .order);
+          long = er .long ∙ sym (full-places q (short-curve q (ok .curve)));
+          value = λ p l. ⊎-elim inl (λ b. inr (omega (arith, sizes q (short-curve q (ok .curve)) .size))) (erased-value p (omega (arith, er .long)));
         }

@@ -14,6 +14,7 @@ use lib.Seq.{ext-getD}
 use Rattle.field.specs.Outcomes.{number}
 use Rattle.field.specs.declared.outcome.Outcome.the-variants.{Done, NoneNear}
 use Rattle.field.proofs.Outcomes.{done-or-refused, done-or-not}
+use Rattle.field.proofs.Curves.{short-curve}
 use Rattle.poly.specs.Lists.{oneIf, count, below}
 use Rattle.poly.proofs.Below.{of-mem-below}
 use Rattle.poly.proofs.Lists.{count-cong}
@@ -132,6 +133,6 @@ module _ (q m : ℕ) (word message codeword marks : List ℕ) where
       let h = mends o in
       let is : wordFrom (answer .message) ≡ word =
       differing-zero word (wordFrom (answer .message)) (word-long q m word ok (answer .message)) .0 (omega (arith, h .near .within)) in
-      let (first, second) = unencode-encode q m (ok .curve) (omega (arith, ok .order)) (answer .message) word message (h .near .vector)
+      let (first, second) = unencode-encode q m (short-curve q (ok .curve)) (omega (arith, ok .order)) (answer .message) word message (h .near .vector)
       (ok .long) (a .message-long) in
       ap (λ (x : List ℕ). unencoded q m x message) (sym (ap (λ (x : Answer). x .slice) first ∙ is)) ∙ second

@@ -10,7 +10,7 @@ use lib.ListN.{length, getD}
 use Rattle.field.specs.Field.{Field}
 use Rattle.field.proofs.FieldLaws.{zero-lt}
 use Rattle.field.proofs.Fields.{fieldOf}
-use Rattle.field.proofs.Curves.{sizes}
+use Rattle.field.proofs.Curves.{sizes, short-curve}
 use Rattle.field.proofs.Sums.{sum-cong}
 use Rattle.poly.specs.inner.Linear.{entry, dot}
 use Rattle.poly.specs.Messages.{Vector}
@@ -54,7 +54,7 @@ module _ (q m : ℕ) (word : List ℕ) (ok : Mendable q m word) (s : ℕ) (below
   columns = columnsOf q
 
   abbrev full : q * length columns ≡ q * q * q
-  full = full-places q (ok .curve)
+  full = full-places q (short-curve q (ok .curve))
 
   -- f times the word, and its grid
   timesWord : List ℕ
@@ -85,8 +85,8 @@ module _ (q m : ℕ) (word : List ℕ) (ok : Mendable q m word) (s : ℕ) (below
   over : WordOver q columns timesWord
   over =
       record {
-        over = full-columns q (ok .curve);
-        few = omega (arith, length-upTo (q * q), sizes q (ok .curve) .symbols);
+        over = full-columns q (short-curve q (ok .curve));
+        few = omega (arith, length-upTo (q * q));
         long = vector-times .len ∙ sym full;
         symbols = vector-below (F .size) (q * q * q) timesWord (zero-lt F) vector-times;
       }
@@ -110,7 +110,7 @@ module _ (q m : ℕ) (word : List ℕ) (ok : Mendable q m word) (s : ℕ) (below
       (λ i k. F .times-comm _ _)
       ∙ dot-scale-row F (size q s) (getD word p 0) (rowOf q columns s p) (entry f)
       ∙ F .times-comm _ _
-      ∙ ap (λ (x : ℕ). F .times x (getD word p 0)) (sym (word-dot q columns (full-columns q (ok .curve)) s f p (omega (arith, full))))
+      ∙ ap (λ (x : ℕ). F .times x (getD word p 0)) (sym (word-dot q columns (full-columns q (short-curve q (ok .curve))) s f p (omega (arith, full))))
 
   laid-out : GridOf q columns timesWord gridOf
   laid-out =
@@ -130,7 +130,7 @@ module _ (q m : ℕ) (word : List ℕ) (ok : Mendable q m word) (s : ℕ) (below
   order = omega (arith, full)
 
   whole : (p : ℕ) → getD timesWord p 0 ≡ 255 → ⊥
-  whole p e = omega (arith, over .symbols p, sizes q (ok .curve) .size, sizes q (ok .curve) .symbols)
+  whole p e = omega (arith, over .symbols p, sizes q (short-curve q (ok .curve)) .size, sizes q (short-curve q (ok .curve)) .symbols)
 
   -- the product is that of a message exactly when the message has its word
   of-fitting : (h : List ℕ) → Fitting (q * q) (size q (m + s)) (wordOf q columns (m + s)) timesWord h → Product q m s word f h

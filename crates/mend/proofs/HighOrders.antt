@@ -4,15 +4,16 @@ use mathlib.Core.List.{List}
 use mathlib.Core.Path.{_≡_}
 use Prim.Native.Nat.{ℕ, _*_, _≤_}
 use lib.ListN.{length}
-use Rattle.field.specs.Curve.{IsCurve}
+use Rattle.field.specs.Curve.{isShort, IsShort}
 use Rattle.field.specs.declared.outcome.Outcome.the-variants.{BadOrder}
+use Rattle.field.proofs.Curves.{short-true}
 use Rattle.code.proofs.HighOrders.{order-high}
 use Rattle.mend.specs.Mended.{answered, mendChecks, mended}
 
-module _ (q m : ℕ) (c : IsCurve q) (h : q * q * q ≤ m) (word message codeword marks : List ℕ) where
+module _ (q m : ℕ) (c : IsShort q) (h : q * q * q ≤ m) (word message codeword marks : List ℕ) where
   checks-high : mendChecks q m word (length message) (length codeword) (length marks) ≡ BadOrder
   unfolding mendChecks
-  checks-high = order-high q m c h _
+  checks-high = order-high q m h (isShort q) (short-true q c) _
 
   pub mended-high : mended q m word message codeword marks ≡ answered BadOrder 0 message codeword marks
   unfolding mended

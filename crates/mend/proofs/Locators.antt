@@ -14,7 +14,7 @@ use Rattle.field.specs.Plus.{plus}
 use Rattle.field.proofs.Plus.{plus-self, eq-of-plus-zero}
 use Rattle.field.proofs.FieldLaws.{times-zero, zero-times, zero-of-times}
 use Rattle.field.proofs.Fields.{fieldOf}
-use Rattle.field.proofs.Curves.{sizes, two-symbols}
+use Rattle.field.proofs.Curves.{sizes, two-symbols, short-curve}
 use Rattle.poly.specs.Lists.{count, below}
 use Rattle.poly.specs.Messages.{Vector}
 use Rattle.poly.specs.inner.Linear.{entry, dot}
@@ -56,7 +56,7 @@ module _ (q m : ℕ) (word : List ℕ) (ok : Mendable q m word) where
 
   pub never-two : (v w : List ℕ) → Near q m word v → Near q m word w → v ≡ w
   never-two v w hv hw =
-      facts q m (ok .curve) .agreement v w (hv .vector) (hw .vector) (places same (q * q * q)) (nodup-places same (q * q * q))
+      facts q m (short-curve q (ok .curve)) .agreement v w (hv .vector) (hw .vector) (places same (q * q * q)) (nodup-places same (q * q * q))
       (omega (
         arith,
         length-places same (q * q * q),
@@ -82,12 +82,12 @@ module _ (q m : ℕ) (word : List ℕ) (ok : Mendable q m word) where
         × ((i : ℕ) × (i < size q (reach q m)) × (entry f i ≡ 0 → ⊥))
     solution =
         nonzero-solution (fieldOf q) (length wrong) (size q (reach q m)) (λ i. rowOf q (columnsOf q) (reach q m) (getD wrong i 0))
-        (omega (arith, length-places (wrongAt v) (q * q * q), few-wrong v h, radius-lt q (ok .curve) m))
+        (omega (arith, length-places (wrongAt v) (q * q * q), few-wrong v h, radius-lt q (short-curve q (ok .curve)) m))
 
     vanishes : (p : ℕ) → p < q * q * q → Wrong v p → symbolAt q (reach q m) (solution .0) p ≡ 0
     vanishes p l d =
         let (i, il, e) = getD-mem wrong 0 (mem-places (wrongAt v) (q * q * q) p l (to-differs (getD word p 0) (symbolAt q m v p) d)) in
-        word-dot q (columnsOf q) (full-columns q (ok .curve)) (reach q m) (solution .0) p (omega (arith, full-places q (ok .curve)))
+        word-dot q (columnsOf q) (full-columns q (short-curve q (ok .curve))) (reach q m) (solution .0) p (omega (arith, full-places q (short-curve q (ok .curve))))
         ∙ subst (λ (x : ℕ). dot (fieldOf q) (size q (reach q m)) (rowOf q (columnsOf q) (reach q m) x) (entry (solution .0)) ≡ 0) e (solution .2 i il)
 
     pub found : List ℕ
@@ -96,9 +96,9 @@ module _ (q m : ℕ) (word : List ℕ) (ok : Mendable q m word) where
     pub found-locates : Locator q m word found
     unfolding found
     found-locates =
-        let (e, he, at) = product-of q (ok .curve) m (reach q m) v (solution .0) in
+        let (e, he, at) = product-of q (short-curve q (ok .curve)) m (reach q m) v (solution .0) in
         record {
-          vector = of-size q (ok .curve) (size q (reach q m)) (solution .0) (solution .1);
+          vector = of-size q (short-curve q (ok .curve)) (size q (reach q m)) (solution .0) (solution .1);
           place = solution .3 .0;
           some = solution .3 .2;
           product = e;
@@ -127,8 +127,8 @@ module _ (q m : ℕ) (word : List ℕ) (ok : Mendable q m word) where
         → fieldOf q .times (symbolAt q (reach q m) f p) (getD word p 0) ≡ fieldOf q .times (symbolAt q (reach q m) f p) (symbolAt q m v p)
     unfolding right
     same-product p l =
-        let (e, he, at) = product-of q (ok .curve) m (reach q m) v f in
-        let one : g ≡ e = facts q (m + reach q m) (ok .curve) .agreement g e (is .vector) he (places right (q * q * q))
+        let (e, he, at) = product-of q (short-curve q (ok .curve)) m (reach q m) v f in
+        let one : g ≡ e = facts q (m + reach q m) (short-curve q (ok .curve)) .agreement g e (is .vector) he (places right (q * q * q))
         (nodup-places right (q * q * q))
         (omega (
           arith,
@@ -152,9 +152,9 @@ module _ (q m : ℕ) (word : List ℕ) (ok : Mendable q m word) where
         let r = getD word p 0 in
         let c = symbolAt q m v p in
         let x = symbolAt q (reach q m) f p in
-        let small : r < F .size = omega (arith, ok .symbols p l, sizes q (ok .curve) .size) in
-        zero-of-times F (plus r c) x (F .plus-lt r c small (symbol-lt q (ok .curve) m v p l)) (λ z. d (eq-of-plus-zero r c z))
-        (symbol-lt q (ok .curve) (reach q m) f p l)
+        let small : r < F .size = omega (arith, ok .symbols p l, sizes q (short-curve q (ok .curve)) .size) in
+        zero-of-times F (plus r c) x (F .plus-lt r c small (symbol-lt q (short-curve q (ok .curve)) m v p l)) (λ z. d (eq-of-plus-zero r c z))
+        (symbol-lt q (short-curve q (ok .curve)) (reach q m) f p l)
         (F .times-comm (plus r c) x ∙ F .times-plus x r c ∙ ap (λ (y : ℕ). plus y (F .times x c)) (same-product p l) ∙ plus-self (F .times x c))
 
   -- ---- (c) AND WHAT IS LEFT OF THE WORD IS READ
@@ -167,7 +167,7 @@ module _ (q m : ℕ) (word : List ℕ) (ok : Mendable q m word) where
     -- and the other way
     symbol-there : (p : ℕ) → p < q * q * q → (symbolAt q (reach q m) f p ≡ 0 → ⊥) → getD broken p 0 ≡ 255 → ⊥
     symbol-there p l n e =
-        omega (arith, er .kept p l n, ok .symbols p l, sizes q (ok .curve) .symbols)
+        omega (arith, er .kept p l n, ok .symbols p l, sizes q (short-curve q (ok .curve)) .symbols)
 
     near-fits : (v : List ℕ) → Near q m word v → Fits wordFrom broken v
     near-fits v h = record { at = λ p l n. go p (omega (arith, er .long)) n }
@@ -184,12 +184,12 @@ module _ (q m : ℕ) (word : List ℕ) (ok : Mendable q m word) where
     pub fit-alone : (v w : List ℕ) → Vector (q * q) (size q m) v → Vector (q * q) (size q m) w
         → Fits wordFrom broken v → Fits wordFrom broken w → v ≡ w
     fit-alone v w hv hw fv fw =
-        facts q m (ok .curve) .agreement v w hv hw (places same (q * q * q)) (nodup-places same (q * q * q))
+        facts q m (short-curve q (ok .curve)) .agreement v w hv hw (places same (q * q * q)) (nodup-places same (q * q * q))
         (omega (
           arith,
           length-places same (q * q * q),
-          few-zeros q (ok .curve) (reach q m) f (loc .vector) (loc .place) (loc .some),
-          count-else (zeroAt q (ok .curve) (reach q m) f) same (q * q * q)
+          few-zeros q (short-curve q (ok .curve)) (reach q m) f (loc .vector) (loc .place) (loc .some),
+          count-else (zeroAt q (short-curve q (ok .curve)) (reach q m) f) same (q * q * q)
               (λ p l n. to-eqb (symbolAt q m v p) (symbolAt q m w p) (agreed p l (nonzero p n))),
         ))
         (λ p k. let a = of-mem-places same (q * q * q) p k in (a .0, eqb→eq (symbolAt q m v p) (symbolAt q m w p) (a .1)))
@@ -197,7 +197,7 @@ module _ (q m : ℕ) (word : List ℕ) (ok : Mendable q m word) where
         same : ℕ → Bool
         same p = eqb (symbolAt q m v p) (symbolAt q m w p)
 
-        nonzero : (p : ℕ) → T (not (zeroAt q (ok .curve) (reach q m) f p)) → symbolAt q (reach q m) f p ≡ 0 → ⊥
+        nonzero : (p : ℕ) → T (not (zeroAt q (short-curve q (ok .curve)) (reach q m) f p)) → symbolAt q (reach q m) f p ≡ 0 → ⊥
         nonzero p t z = T-not (eqb (symbolAt q (reach q m) f p) 0) t (to-eqb (symbolAt q (reach q m) f p) 0 z)
 
         agreed : (p : ℕ) → p < q * q * q → (symbolAt q (reach q m) f p ≡ 0 → ⊥) → symbolAt q m v p ≡ symbolAt q m w p
@@ -207,13 +207,13 @@ module _ (q m : ℕ) (word : List ℕ) (ok : Mendable q m word) where
 
     pub near-read : (v : List ℕ) → Near q m word v → reading (q * q) (size q m) wordFrom broken ≡ message v
     near-read v h =
-        reading-message (q * q) (size q m) wordFrom broken (two-symbols q (ok .curve)) v (h .vector) (near-fits v h)
+        reading-message (q * q) (size q m) wordFrom broken (two-symbols q (short-curve q (ok .curve))) v (h .vector) (near-fits v h)
         (λ w hw fw. fit-alone w v hw (h .vector) fw (near-fits v h))
 
     pub read-vector : (v : List ℕ) → reading (q * q) (size q m) wordFrom broken ≡ message v → Vector (q * q) (size q m) v
     unfolding reading
     read-vector v e =
-        reads-message (q * q) (two-symbols q (ok .curve)) (Fitting (q * q) (size q m) wordFrom broken) (fitting (q * q) (size q m) wordFrom broken)
+        reads-message (q * q) (two-symbols q (short-curve q (ok .curve))) (Fitting (q * q) (size q m) wordFrom broken) (fitting (q * q) (size q m) wordFrom broken)
         (fitting-list (q * q) (size q m) wordFrom broken) v .0 e .has .vector
 
   -- where there is no such f, no message is near

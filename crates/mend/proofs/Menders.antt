@@ -10,10 +10,12 @@ use borrow.Author.Tests.{eqb-true, not-false, ltb-false}
 use lib.Dec.{eqb, leb, ltb, leb→le, le→leb, T-not, not-T}
 use lib.ListN.{length, getD}
 use lib.Seq.{ext-getD}
+use Rattle.field.specs.Curve.{isShort}
 use Rattle.field.specs.Outcomes.{number, refuse}
 use Rattle.field.specs.declared.outcome.Outcome.{Outcome}
 use Rattle.field.specs.declared.outcome.Outcome.the-variants.{Done, BadRoom, NoneNear, NoRadius}
 use Rattle.field.proofs.Outcomes.{passed, Follows, done-or-not}
+use Rattle.field.proofs.Curves.{short-curve, short-of-true}
 use Rattle.poly.specs.Lists.{below}
 use Rattle.poly.specs.Messages.{Vector, all}
 use Rattle.poly.specs.Sets.{ListOf}
@@ -56,7 +58,7 @@ checks-passed q m word message codeword marks e =
     let n = q * q * q in
     let last = refuse (not (eqb marks n)) BadRoom Done in
     let rooms = refuse (not (eqb codeword n)) BadRoom last in
-    let (curve, low, e1) = order-rest q m _ e in
+    let (taken, low, e1) = order-rest (isShort q) q m _ e in
     let (far, e2) = passed (ltb (n - m - 1) (genus q)) _ NoRadius (λ p. omega (arith, ap number p)) e1 in
     let (e3, e4) = follows-done _ rooms (slices-follow false (q * q) n word (size q m) message) e2 in
     let (w, e5) = passed (not (eqb codeword n)) last BadRoom (λ p. omega (arith, ap number p)) e4 in
@@ -64,7 +66,7 @@ checks-passed q m word message codeword marks e =
     let a = slices-done false (q * q) n word (size q m) message e3 in
     record {
       mendable = record {
-        curve = curve;
+        curve = short-of-true q taken;
         order = omega (arith, ltb-false (n - m - 1) (genus q) far);
         long = a .long;
         symbols = λ p l. symbol-of-good (q * q) (getD word p 0) (a .good p (omega (arith, a .long)));
@@ -162,7 +164,7 @@ differing-zero a b l = (
 
 module _ (q m : ℕ) (word : List ℕ) (ok : Mendable q m word) where
   pub word-long : (v : List ℕ) → length (wordOf q (columnsOf q) m v) ≡ length word
-  word-long v = length-word q (columnsOf q) m v ∙ full-points q (ok .curve) ∙ sym (ok .long)
+  word-long v = length-word q (columnsOf q) m v ∙ full-points q (short-curve q (ok .curve)) ∙ sym (ok .long)
 
   -- a codeword is near
   pub codeword-near : (v : List ℕ) → Vector (q * q) (size q m) v → wordOf q (columnsOf q) m v ≡ word → Near q m word v

@@ -43,10 +43,10 @@ at : (l : List ℕ) (i k : ℕ) → i ≡ k → getD l i 0 ≡ getD l k 0
 at l i k e = ap (λ (p : ℕ). getD l p 0) e
 
 many : (q : ℕ) → IsCurve q → 4 ≤ q * q
-many = each-curve (λ q. 4 ≤ q * q) (omega arith) (omega arith)
+many = each-curve (λ q. 4 ≤ q * q) (omega arith) (omega arith) (omega arith)
 
 pub many-columns : (q : ℕ) → IsCurve q → q + 2 ≤ q * q
-many-columns = each-curve (λ q. q + 2 ≤ q * q) (omega arith) (omega arith)
+many-columns = each-curve (λ q. q + 2 ≤ q * q) (omega arith) (omega arith) (omega arith)
 
 grow : (n : ℕ) → 4 ≤ n → n ≡ suc (suc (n - 2) + 0)
 grow n l = omega arith
@@ -285,14 +285,14 @@ entry-lt q curve i j a b = omega (arith, place-lt q i j (q * q) b a, sizes q cur
 
 -- a grid's rows are within sixteen numbers for each column
 pub rows-long : (q : ℕ) → IsCurve q → q * q * q ≤ 16 * (q * q)
-rows-long = each-curve (λ q. q * q * q ≤ 16 * (q * q)) (omega arith) (omega arith)
+rows-long = each-curve (λ q. q * q * q ≤ 16 * (q * q)) (omega arith) (omega arith) (omega arith)
 
 -- as many symbols as the full list of columns has points
 pub full-word : (q : ℕ) → IsCurve q → (word : List ℕ) → length word ≡ q * q * q → Below (fieldOf q .size) word → WordOver q (columnsOf q) word
 full-word q curve word long symbols =
     record {
       over = full-columns q curve;
-      few = omega (arith, length-upTo (q * q), sizes q curve .symbols);
+      few = omega (arith, length-upTo (q * q));
       long = long ∙ sym (full-places q curve);
       symbols = symbols;
     }

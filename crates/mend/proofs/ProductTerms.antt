@@ -10,9 +10,9 @@ use native.Mathlib.Nat.{mul-comm, mul-suc, mul-le-mul-left, le-div-iff-mul-le}
 use native.Mathlib.Omega.{arith}
 use lib.ListN.{length, getD, take, List·getD-eq-default}
 use lib.Seq.{getD-take}
-use Rattle.field.specs.Curve.{IsCurve}
+use Rattle.field.specs.Curve.{IsShort}
 use Rattle.field.specs.Field.{Field}
-use Rattle.field.proofs.Curves.{sizes}
+use Rattle.field.proofs.Curves.{short-curve, short-sizes}
 use Rattle.field.proofs.Fields.{fieldOf}
 use Rattle.field.proofs.FieldLaws.{zero-lt}
 use Rattle.poly.specs.inner.Interpolation.{interleaved}
@@ -42,7 +42,7 @@ starts-taken q s count k l is h = record { at = λ i b. getD-take k l i 0 (omega
 
 -- the grids of the products of a word of n symbols with the x^i·y^j, and the starts of the terms of order s
 pub record Prepared (q s count n : ℕ) (word starts grids : List ℕ) : Type 0 where
-  pub curve : IsCurve q
+  pub curve : IsShort q
   pub powers : count ≡ s / q + 1
   pub places : n ≡ q * q * q
   pub fits : 64 * count * q ≤ length grids
@@ -57,7 +57,7 @@ module _ (q s count n : ℕ) (word starts grids : List ℕ) (h : Prepared q s co
   columns = columnsOf q
 
   short : n ≤ 64
-  short = omega (arith, h .places, sizes q (h .curve) .points)
+  short = omega (arith, h .places, short-sizes q (h .curve) .points)
 
   -- the products with the terms
   pub productsOf : ℕ → List ℕ
@@ -82,13 +82,13 @@ module _ (q s count n : ℕ) (word starts grids : List ℕ) (h : Prepared q s co
     y = yPower q w
 
     y-below : y < q
-    y-below = y-lt q (curve-pos q (h .curve)) w
+    y-below = y-lt q (curve-pos q (short-curve q (h .curve))) w
 
     x-below : x < count
     x-below =
         let a = at-place (isTerm q) (suc s) i il in
-        let e = weight-of-powers q (curve-pos q (h .curve)) w (a .1) in
-        let l : x ≤ s / q = le-div-iff-mul-le {x = x} {y = s} (curve-pos q (h .curve)) .1 (omega (arith, mul-comm x q, e, a .0)) in
+        let e = weight-of-powers q (curve-pos q (short-curve q (h .curve))) w (a .1) in
+        let l : x ≤ s / q = le-div-iff-mul-le {x = x} {y = s} (curve-pos q (short-curve q (h .curve))) .1 (omega (arith, mul-comm x q, e, a .0)) in
         omega (arith, h .powers)
 
     -- its block
@@ -131,7 +131,7 @@ module _ (q s count n : ℕ) (word starts grids : List ℕ) (h : Prepared q s co
     ]
 
     full : q * length columns ≡ n
-    full = full-places q (h .curve) ∙ sym (h .places)
+    full = full-places q (short-curve q (h .curve)) ∙ sym (h .places)
 
     same-value : (t r : ℕ) → t < length columns → r < q → gridValue q columns (gridFrom n starts grids i) t r ≡ gridValue q columns here t r
     same-value t r a b =
@@ -157,7 +157,7 @@ module _ (q m : ℕ) (word : List ℕ) (ok : Mendable q m word) where
   pub word-symbols : Below (fieldOf q .size) word
   word-symbols =
       vector-below (fieldOf q .size) (q * q * q) word (zero-lt (fieldOf q))
-      (to-size q (ok .curve) (q * q * q) word (record { len = ok .long; small = ok .symbols }))
+      (to-size q (short-curve q (ok .curve)) (q * q * q) word (record { len = ok .long; small = ok .symbols }))
 
   pub heavy-low : (s : ℕ) → s ≡ reach q m → m + s < length word
   heavy-low s is = omega (arith, ok .order, ok .long)

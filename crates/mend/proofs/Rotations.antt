@@ -6,13 +6,13 @@ use Prim.Native.Nat.{ℕ, _+_, _-_, _*_, _≤_, _<_}
 use native.Mathlib.Omega.{arith}
 use borrow.Rule.Slice.PartMut.{putMid}
 use lib.ListN.{length, getD, length-replicate}
-use Rattle.field.specs.Curve.{IsCurve}
+use Rattle.field.specs.Curve.{IsCurve, IsShort}
 use Rattle.field.specs.Plus.{plus}
-use Rattle.field.proofs.Curves.{each-curve, sizes}
+use Rattle.field.proofs.Curves.{each-curve, short-curve, short-sizes}
 use Rattle.field.proofs.Fields.{fieldOf}
 use Rattle.field.proofs.FieldLaws.{zero-lt}
 use Rattle.poly.specs.inner.Linear.{entry}
-use Rattle.poly.specs.inner.Ranges.{Below, writes, part, put}
+use Rattle.poly.specs.inner.Ranges.{Below, part, put}
 use Rattle.poly.specs.inner.Rows.{summed, stored}
 use Rattle.poly.proofs.Entries.{zeros, getD-zeros, below-zeros}
 use Rattle.poly.proofs.Multiples.{length-stored, stored-in}
@@ -22,21 +22,21 @@ use Rattle.mend.specs.inner.Products.{TimesX}
 
 -- a grid has two rows at least, and room in 64
 pub rows-two : (q : ℕ) → IsCurve q → q + q ≤ q * q * q
-rows-two = each-curve (λ q. q + q ≤ q * q * q) (omega arith) (omega arith)
+rows-two = each-curve (λ q. q + q ≤ q * q * q) (omega arith) (omega arith) (omega arith)
 
-pub row-room : (q : ℕ) → IsCurve q → q ≤ 64
-row-room q curve = omega (arith, sizes q curve .high)
+pub row-room : (q : ℕ) → IsShort q → q ≤ 64
+row-room q curve = omega (arith, short-sizes q curve .high)
 
-module _ (q n : ℕ) (curve : IsCurve q) (is-n : n ≡ q * q * q) (grid : List ℕ) (long : n ≤ length grid) (small : Below (fieldOf q .size) grid)
+module _ (q n : ℕ) (curve : IsShort q) (is-n : n ≡ q * q * q) (grid : List ℕ) (long : n ≤ length grid) (small : Below (fieldOf q .size) grid)
     (copied : List ℕ) (is-copied : copied ≡ stored (n - q) grid (part (zeros 64) q 64)) where
   room : q ≤ 64
   room = row-room q curve
 
   two : q + q ≤ n
-  two = omega (arith, is-n, rows-two q curve)
+  two = omega (arith, is-n, rows-two q (short-curve q curve))
 
   most : n ≤ 64
-  most = omega (arith, is-n, sizes q curve .points)
+  most = omega (arith, is-n, short-sizes q curve .points)
 
   pub lent-long : length (part (zeros 64) q 64) ≡ 64 - q
   lent-long = length-part (zeros 64) q 64 room (omega (arith, length-replicate {A = ℕ} 64 0))
@@ -126,7 +126,7 @@ module _ (q n : ℕ) (curve : IsCurve q) (is-n : n ≡ q * q * q) (grid : List �
         }
 
 -- as the borrow checker has it
-pub times-x-written : (q n : ℕ) → IsCurve q → n ≡ q * q * q → (grid : List ℕ) → n ≤ length grid → Below (fieldOf q .size) grid
+pub times-x-written : (q n : ℕ) → IsShort q → n ≡ q * q * q → (grid : List ℕ) → n ≤ length grid → Below (fieldOf q .size) grid
     → (copied sums : List ℕ)
     → copied ≡ stored (n - q) grid (part (zeros 64) q 64)
     → sums ≡ summed q (part grid (n - q) n) (part (putMid q (64 - q) (zeros 64) copied) q 64)
@@ -139,7 +139,7 @@ times-x-written q n curve is-n grid long small copied sums is-copied is-sums =
     (rotated q n curve is-n grid long small copied is-copied sums
     (is-sums ∙ ap (λ (l : List ℕ). summed q (part grid (n - q) n) (part l q 64)) first))
 
-module _ (q n : ℕ) (curve : IsCurve q) (is-n : n ≡ q * q * q) (grid : List ℕ) (long : n ≤ length grid) (small : Below (fieldOf q .size) grid)
+module _ (q n : ℕ) (curve : IsShort q) (is-n : n ≡ q * q * q) (grid : List ℕ) (long : n ≤ length grid) (small : Below (fieldOf q .size) grid)
     (copied : List ℕ) (is-copied : copied ≡ stored (n - q) grid (part (zeros 64) q 64)) where
   pub mid-long : length (putMid q (64 - q) (zeros 64) copied) ≡ 64
   mid-long = ap length (put-is (zeros 64) q 64 copied (row-room q curve)) ∙ shifted-long q n curve is-n grid long small copied is-copied

@@ -10,6 +10,7 @@ use Rattle.field.specs.Field.{Field}
 use Rattle.field.proofs.FieldLaws.{zero-lt, times-zero}
 use Rattle.field.proofs.Fields.{fieldOf}
 use Rattle.field.proofs.Sums.{sum-zeros}
+use Rattle.field.proofs.Curves.{short-curve}
 use Rattle.poly.specs.Messages.{Vector}
 use Rattle.poly.specs.inner.Linear.{entry, dot}
 use Rattle.poly.specs.inner.Systems.{flat, Satisfies, Full}
@@ -43,7 +44,7 @@ module _ (q m : ℕ) (word : List ℕ) (ok : Mendable q m word) (products grids 
   full-no-locator full f loc = loc .some (zero-at (loc .place))
     where
       vec : Vector (F .size) k f
-      vec = to-size q (ok .curve) k f (loc .vector)
+      vec = to-size q (short-curve q (ok .curve)) k f (loc .vector)
 
       zero-at : (i : ℕ) → getD f i 0 ≡ 0
       zero-at i = elim (decLt i k) [
@@ -58,4 +59,4 @@ module _ (q m : ℕ) (word : List ℕ) (ok : Mendable q m word) (products grids 
   pub solution-locates : (f : List ℕ) → Vector (F .size) k f → Satisfies F k (flat stride k work) (entry f) → (i : ℕ) → (getD f i 0 ≡ 0
       → ⊥) → Locator q m word f
   solution-locates f vec sat i d =
-      locator-of q m word ok products grids made laid f (of-size q (ok .curve) k f vec) i d (held .same (entry f) .1 sat)
+      locator-of q m word ok products grids made laid f (of-size q (short-curve q (ok .curve)) k f vec) i d (held .same (entry f) .1 sat)

@@ -4,7 +4,7 @@ use mathlib.Core.List.{List, [], _∷_, map}
 use Prim.Native.Nat.{ℕ, _-_, _/_}
 use lib.Dec.{eqb, leb, ltb}
 use lib.ListN.{length, getD}
-use Rattle.field.specs.Curve.{curveOf}
+use Rattle.field.specs.Curve.{isShort, curveOf}
 use Rattle.field.specs.Outcomes.{number, refuse}
 use Rattle.field.specs.declared.outcome.Outcome.{Outcome}
 use Rattle.field.specs.declared.outcome.Outcome.the-variants.{Done, BadRoom, NoneNear, NoRadius}
@@ -60,7 +60,7 @@ theNear word wordFrom refused (v ∷ rest) = written word wordFrom v
 unfoldable pub mendChecks : ℕ → ℕ → List ℕ → ℕ → ℕ → ℕ → Outcome
 mendChecks q m word message codeword marks =
     let n = curveOf q .points in
-    orderChecks q m
+    orderChecks (isShort q) q m
     (refuse (ltb (n - m - 1) (curveOf q .genus)) NoRadius
     (sliceChecks false (curveOf q .symbols) n word (size q m) message
     (refuse (not (eqb codeword n)) BadRoom

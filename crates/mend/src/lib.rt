@@ -3,7 +3,7 @@ ghost use mathlib.Core.Bool.{true};
 ghost use mathlib.Core.Path.{_≡_};
 ghost use Prim.Native.Nat.{_+_, _*_, _≤_};
 ghost use lib.ListN.{length};
-ghost use Rattle.field.specs.Curve.{IsCurve, curveOf};
+ghost use Rattle.field.specs.Curve.{IsShort, curveOf};
 ghost use Rattle.field.specs.declared.outcome.Outcome.the-variants.{Done};
 ghost use Rattle.mend.specs.Mended.{radius, answered, mendChecks, mended};
 ghost use Rattle.mend.specs.inner.Candidates.{OnlyNear};
@@ -36,7 +36,7 @@ fn check_call(
 ) -> Outcome
     ensures { λ r. ⌜ r ≡ mendChecks q m (now (word .entry)) message codeword marks ⌝ }
 {
-    let first = check::order(q, m);
+    let first = check::order(field::curve::is_short(q), q, m);
     let Outcome::Done = first else {
         return first;
     };
@@ -60,7 +60,7 @@ fn check_call(
 
 // t
 fn radius(q: u8, m: usize) -> usize
-    requires { ⌜ IsCurve q × (m + 1 + curveOf q .genus ≤ q * q * q) ⌝ }
+    requires { ⌜ IsShort q × (m + 1 + curveOf q .genus ≤ q * q * q) ⌝ }
     ensures { λ r. ⌜ r ≡ radius q m ⌝ }
 {
     let curve = Curve::at(q);

@@ -3,7 +3,7 @@
 ghost use mathlib.Core.Path.{_≡_};
 ghost use Prim.Native.Nat.{ℕ, _+_, _*_, _≤_, _<_};
 ghost use lib.ListN.{length, getD};
-ghost use Rattle.field.specs.Curve.{IsCurve};
+ghost use Rattle.field.specs.Curve.{IsShort};
 ghost use Rattle.field.proofs.Fields.{fieldOf};
 ghost use Rattle.poly.specs.inner.Linear.{entry};
 ghost use Rattle.poly.specs.inner.Systems.{flat, Satisfies, WellFormed};
@@ -19,7 +19,7 @@ use poly::system;
 
 // Where the grid of each term of order s starts, those of x^0·y^j, x^1·y^j, .. being count blocks of 64 for each j.
 fn write_starts(q: u8, s: usize, count: usize, starts: &mut [u16])
-    requires { ⌜ IsCurve q × (s < 64) × (count ≤ 16) × (size q s ≤ length (now starts)) ⌝ }
+    requires { ⌜ IsShort q × (s < 64) × (count ≤ 16) × (size q s ≤ length (now starts)) ⌝ }
     ensures { λ _. ⌜ Starts q s count (now (starts .exit)) ⌝ }
 {
     let k = term::size(q, s);
@@ -35,7 +35,7 @@ fn write_starts(q: u8, s: usize, count: usize, starts: &mut [u16])
 // Brings in the equation that entry e of f times the word is 0.
 fn bring_entry(q: u8, starts: &[u16], grids: &[u8], e: usize, work: &mut [u8])
     requires { ⌜ WellFormed (fieldOf q) 32 (length (now starts)) (now work)
-        × Satisfies (fieldOf q) (length (now starts)) (flat 32 (length (now starts)) (now work)) (λ j. 0) ⌝ }
+        × Satisfies (fieldOf q) (length (now starts)) (flat 32 (length (now starts)) (now work)) (λ j. 0) × (q ≡ 8 → ⊥) ⌝ }
     requires { ⌜ e ≤ length (now grids) ⌝ }
     requires { ⌜ ((n : ℕ) → n < length (now starts)
         → (getD (now starts) n 0 + e < length (now grids)) × (entryFrom (now starts) (now grids) e n < fieldOf q .size)) ⌝ }
@@ -51,7 +51,7 @@ fn bring_entry(q: u8, starts: &[u16], grids: &[u8], e: usize, work: &mut [u8])
 
 // Brings in those of all entries of a weight above m + s.
 fn bring_entries(q: u8, m: usize, s: usize, n: usize, starts: &[u16], grids: &[u8], work: &mut [u8])
-    requires { ⌜ IsCurve q × (n ≡ q * q * q) × (m + s < n) × (length (now starts) ≡ size q s) × (size q s < 32) × (n ≤ length (now grids)) ⌝ }
+    requires { ⌜ IsShort q × (n ≡ q * q * q) × (m + s < n) × (length (now starts) ≡ size q s) × (size q s < 32) × (n ≤ length (now grids)) ⌝ }
     requires { ⌜ ((i e : ℕ) → i < size q s → e < n
         → (getD (now starts) i 0 + e < length (now grids)) × (entryFrom (now starts) (now grids) e i < fieldOf q .size)) ⌝ }
     requires { ⌜ (length (now work) ≡ 32 * 32) × ((i : ℕ) → entry (now work) i ≡ 0) ⌝ }

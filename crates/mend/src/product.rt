@@ -2,7 +2,7 @@
 ghost use mathlib.Core.Path.{_≡_};
 ghost use Prim.Native.Nat.{_*_, _/_, _%_, _≤_, _<_};
 ghost use lib.ListN.{length, replicate};
-ghost use Rattle.field.specs.Curve.{IsCurve};
+ghost use Rattle.field.specs.Curve.{IsShort};
 ghost use Rattle.field.proofs.Fields.{fieldOf};
 ghost use Rattle.poly.specs.inner.Linear.{entry};
 ghost use Rattle.poly.specs.inner.Ranges.{Below, writes};
@@ -16,7 +16,7 @@ use poly::rows;
 
 // x times the polynomial of a grid of n entries.
 fn times_x(q: u8, n: usize, grid: &[u8]) -> [u8; 64]
-    requires { ⌜ IsCurve q × (n ≡ q * q * q) × (n ≤ length (now grid)) × Below (fieldOf q .size) (now grid) ⌝ }
+    requires { ⌜ IsShort q × (n ≡ q * q * q) × (n ≤ length (now grid)) × Below (fieldOf q .size) (now grid) ⌝ }
     ensures { λ r. ⌜ TimesX q n (now (grid .entry)) r ⌝ }
 {
     let width = q as usize;
@@ -29,7 +29,7 @@ fn times_x(q: u8, n: usize, grid: &[u8]) -> [u8; 64]
 
 // The coefficient of x^i·y^(q - 1).
 fn top(q: u8, grid: &[u8], i: usize) -> u8
-    requires { ⌜ IsCurve q × (i < q * q) × (q * q * q ≤ length (now grid)) ⌝ }
+    requires { ⌜ IsShort q × (i < q * q) × (q * q * q ≤ length (now grid)) ⌝ }
     ensures { λ r. ⌜ r ≡ top q (now (grid .entry)) i ⌝ }
 {
     let width = q as usize;
@@ -38,7 +38,7 @@ fn top(q: u8, grid: &[u8], i: usize) -> u8
 
 // The coefficient of x^i in x^(q + 1) times the polynomial that stands before y^(q - 1).
 fn turned(q: u8, grid: &[u8], i: usize) -> u8
-    requires { ⌜ IsCurve q × (i < q * q) × (q * q * q ≤ length (now grid)) ⌝ }
+    requires { ⌜ IsShort q × (i < q * q) × (q * q * q ≤ length (now grid)) ⌝ }
     ensures { λ r. ⌜ r ≡ turned q (now (grid .entry)) i ⌝ }
 {
     let width = q as usize;
@@ -56,7 +56,7 @@ fn turned(q: u8, grid: &[u8], i: usize) -> u8
 
 // The coefficient of x^i·y^j in y times the polynomial of a grid.
 fn times_y_at(q: u8, grid: &[u8], i: usize, j: usize) -> u8
-    requires { ⌜ IsCurve q × (i < q * q) × (j < q) × (q * q * q ≤ length (now grid)) ⌝ }
+    requires { ⌜ IsShort q × (i < q * q) × (j < q) × (q * q * q ≤ length (now grid)) ⌝ }
     ensures { λ r. ⌜ r ≡ timesYAt q (now (grid .entry)) i j ⌝ }
 {
     let row = (q as usize) * i;
@@ -71,7 +71,7 @@ fn times_y_at(q: u8, grid: &[u8], i: usize, j: usize) -> u8
 
 // y times the polynomial of a grid of n entries.
 fn times_y(q: u8, n: usize, grid: &[u8]) -> [u8; 64]
-    requires { ⌜ IsCurve q × (n ≡ q * q * q) × (n ≤ length (now grid)) ⌝ }
+    requires { ⌜ IsShort q × (n ≡ q * q * q) × (n ≤ length (now grid)) ⌝ }
     ensures { λ r. ⌜ r ≡ writes (replicate 64 0) n (λ e. timesYAt q (now (grid .entry)) (e / q) (e % q)) ⌝ }
 {
     let mut r = [0u8; 64];
@@ -86,7 +86,7 @@ fn times_y(q: u8, n: usize, grid: &[u8]) -> [u8; 64]
 
 // The grids of x^0, x^1, .. times the polynomial of the first.
 fn write_multiples(q: u8, n: usize, count: usize, first: &[u8], out: &mut [u8])
-    requires { ⌜ IsCurve q × (n ≡ q * q * q) × (length (now first) ≡ 64) × Below (fieldOf q .size) (now first) × (length (now out) ≡ 64 * count) ⌝ }
+    requires { ⌜ IsShort q × (n ≡ q * q * q) × (length (now first) ≡ 64) × Below (fieldOf q .size) (now first) × (length (now out) ≡ 64 * count) ⌝ }
     ensures { λ _. ⌜ Multiples q (columnsOf q) (now (first .entry)) (now (out .exit)) count ⌝ }
 {
     let mut grid = [0u8; 64];
@@ -104,7 +104,7 @@ fn write_multiples(q: u8, n: usize, count: usize, first: &[u8], out: &mut [u8])
 
 // The grid of a word.
 fn interpolate(q: u8, word: &[u8]) -> [u8; 64]
-    requires { ⌜ IsCurve q × (length (now word) ≡ q * q * q) × Below (fieldOf q .size) (now word) ⌝ }
+    requires { ⌜ IsShort q × (length (now word) ≡ q * q * q) × Below (fieldOf q .size) (now word) ⌝ }
     ensures { λ r. ⌜ Takes q (columnsOf q) (entry (now (word .entry))) r × (length r ≡ 64) ⌝ }
 {
     let tree = point::tree(q);
@@ -113,7 +113,8 @@ fn interpolate(q: u8, word: &[u8]) -> [u8; 64]
     let c = curve.symbols as usize;
     let end = 16 * c;
     let mut work = [0u8; 256];
-    unencoding::interpolate(q, &columns[..c], &tree, word, &mut work[..end]);
+    let all = point::padded_ys(q);
+    unencoding::interpolate(q, &all, &columns[..c], &tree, word, &mut work[..end]);
     let mut r = [0u8; 64];
     rows::copy(word.len(), &work, &mut r);
     r
@@ -121,7 +122,7 @@ fn interpolate(q: u8, word: &[u8]) -> [u8; 64]
 
 // The grids of x^i·y^j times the word, for each j below q and each i below count.
 pub fn write_products(q: u8, count: usize, word: &[u8], grids: &mut [u8])
-    requires { ⌜ IsCurve q × (length (now word) ≡ q * q * q) × Below (fieldOf q .size) (now word) ⌝ }
+    requires { ⌜ IsShort q × (length (now word) ≡ q * q * q) × Below (fieldOf q .size) (now word) ⌝ }
     requires { ⌜ 64 * count * q ≤ length (now grids) ⌝ }
     ensures { λ _. ⌜ Products q (columnsOf q) (now (word .entry)) count (now (grids .exit)) q ⌝ }
 {

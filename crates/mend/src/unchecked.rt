@@ -1,6 +1,7 @@
-// Encoding, unencoding and recovery over all columns, of arguments that are past their checks.
+// Encoding, unencoding and recovery over all columns of short blocks, of arguments that are past their checks.
 ghost use mathlib.Core.Path.{_≡_};
 ghost use lib.ListN.{length};
+ghost use Rattle.field.specs.Curve.{IsShort};
 ghost use Rattle.field.proofs.Fields.{fieldOf};
 ghost use Rattle.code.specs.Answers.{answered};
 ghost use Rattle.code.specs.Points.{columnsOf};
@@ -19,7 +20,7 @@ use field::Outcome;
 
 // The word of a message.
 pub fn encode(q: u8, m: u16, message: &[u8], word: &mut [u8])
-    requires { ⌜ Encodable q (columnsOf q) m (now message) (now word) ⌝ }
+    requires { ⌜ Encodable q (columnsOf q) m (now message) (now word) × IsShort q ⌝ }
     ensures { λ _. ⌜ now (word .exit) ≡ wordOf q (columnsOf q) m (now (message .entry)) ⌝ }
 {
     let columns = point::columns();
@@ -30,7 +31,7 @@ pub fn encode(q: u8, m: u16, message: &[u8], word: &mut [u8])
 
 // The message of a word.
 pub fn unencode(q: u8, m: u16, word: &[u8], message: &mut [u8]) -> Outcome
-    requires { ⌜ Readable q (columnsOf q) m (now word) (now message) ⌝ }
+    requires { ⌜ Readable q (columnsOf q) m (now word) (now message) × IsShort q ⌝ }
     ensures { λ r. ⌜ readOver q (columnsOf q) m (now (word .entry)) (now (message .entry)) ≡ answered r (now (message .exit)) ⌝ }
 {
     let tree = point::tree(q);
@@ -42,7 +43,7 @@ pub fn unencode(q: u8, m: u16, word: &[u8], message: &mut [u8]) -> Outcome
 
 // The message that alone fits a broken word.
 pub fn recover(q: u8, m: u16, word: &[u8], message: &mut [u8]) -> Outcome
-    requires { ⌜ BrokenOver q (columnsOf q) m (now word) × (length (now message) ≡ size q m) ⌝ }
+    requires { ⌜ BrokenOver q (columnsOf q) m (now word) × (length (now message) ≡ size q m) × IsShort q ⌝ }
     ensures { λ r. ⌜ answerOf (reading (fieldOf q .size) (size q m) (wordOf q (columnsOf q) m) (now (word .entry))) (now (message .entry))
         ≡ answered r (now (message .exit)) ⌝ }
 {

@@ -3,9 +3,9 @@
 use mathlib.Core.List.{List}
 use mathlib.Core.Path.{_≡_, sym, ap, _∙_}
 use Prim.Native.Nat.{ℕ, _+_, _-_, _*_, _/_, _%_, _≤_, _<_}
-use native.Mathlib.Nat.{mul-suc, mul-le-mul-left, div-add-mod, mod-lt, div-lt-iff-lt-mul, mul-comm}
+use native.Mathlib.Nat.{mul-add, mul-suc, mul-le-mul-left, div-add-mod, mod-lt, div-lt-iff-lt-mul, mul-comm}
 use native.Mathlib.Numerals.{add-one}
-use native.Mathlib.Decide.{ℕ-discrete}
+use native.Mathlib.Decide.{ℕ-discrete, decLt}
 use native.Mathlib.Omega.{arith}
 use borrow.Rule.Slice.PartMut.{putMid}
 use lib.ListN.{length, getD}
@@ -31,6 +31,33 @@ blocks-more width f l ys n a e h is-a is-e fits long new =
         let k : i < n = omega arith in
         put-low l a e ys (omega arith) fits (omega arith) (width * i + j) (omega (arith, mul-suc width i, mul-le-mul-left width k))
         ∙ h .at i j k v
+
+-- several blocks more
+pub blocks-group : (width : ℕ) (f : ℕ → ℕ → ℕ) (l ys : List ℕ) (from to : ℕ) → from ≤ to → width * to ≤ length l → Blocks width f l from
+    → length ys ≡ width * to - width * from → ((i j : ℕ) → from + i < to → j < width → getD ys (width * i + j) 0 ≡ f (from + i) j)
+    → Blocks width f (putMid (width * from) (width * to - width * from) l ys) to
+blocks-group width f l ys from to le fits h long new =
+    record { at = λ i j u v. ap (λ (x : List ℕ). getD x (width * i + j) 0) (put-is l a e ys ordered) ∙ go i j u v (decLt i from) }
+  where
+    a : ℕ
+    a = width * from
+
+    e : ℕ
+    e = width * to
+
+    ordered : a ≤ e
+    ordered = mul-le-mul-left width le
+
+    go : (i j : ℕ) → i < to → j < width → Dec (i < from) → getD (put l a e ys) (width * i + j) 0 ≡ f i j
+    go i j u v (yes k) =
+        put-low l a e ys ordered fits long (width * i + j) (omega (arith, mul-suc width i, mul-le-mul-left width k)) ∙ h .at i j k v
+    go i j u v (no d) =
+        let t : ℕ = i - from in
+        let same : from + t ≡ i = omega arith in
+        let p : width * i + j ≡ a + (width * t + j) = omega (arith, ap (λ (x : ℕ). width * x) (sym same), mul-add width from t) in
+        ap (λ (x : ℕ). getD (put l a e ys) x 0) p
+        ∙ put-in l a e ys ordered fits long (width * t + j) (omega (arith, mul-suc width i, mul-le-mul-left width u))
+        ∙ new t j (omega arith) v ∙ ap (λ (x : ℕ). f x j) same
 
 -- the next block's start
 pub block-start : (width n a e : ℕ) → a ≡ width * n → e ≡ a + width → e ≡ width * (n + 1)

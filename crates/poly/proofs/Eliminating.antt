@@ -161,7 +161,7 @@ module _ (F : Field) (n i c count : ℕ) (low vectors₀ : List ℕ) (at-i : i <
 -- ---- the table of factors
 
 pub symbols-fit : (q : ℕ) → fieldOf q .size ≤ 64
-symbols-fit = each (λ e. 2 ^ e ≤ 64) (lit≤ tt) (lit≤ tt)
+symbols-fit = each (λ e. 2 ^ e ≤ 64) (lit≤ tt) (lit≤ tt) (lit≤ tt)
 
 -- factors has c times each symbol s at s
 pub record Factors (F : Field) (c : ℕ) (factors : List ℕ) : Type 0 where

@@ -6,11 +6,11 @@ use Prim.Native.Nat.{ℕ, _≤_, _<_}
 use native.Mathlib.Decide.{decLt, ℕ-discrete}
 use native.Mathlib.Omega.{arith}
 use lib.ListN.{length, getD, take, set, replicate, getD-replicate, length-replicate, List·getD-eq-default}
-use lib.Seq.{getD-set-same, getD-set-other, set-out}
+use lib.Seq.{ext-getD, getD-set-same, getD-set-other, set-out}
 use Rattle.poly.specs.inner.Linear.{entry}
 use Rattle.poly.specs.inner.Rows.{stored}
-use Rattle.poly.specs.inner.Ranges.{Below}
-use Rattle.poly.proofs.Writes.{writes-in, writes-out}
+use Rattle.poly.specs.inner.Ranges.{Below, writes}
+use Rattle.poly.proofs.Writes.{length-writes, writes-in, writes-out}
 use Rattle.poly.proofs.Parts.{below-take}
 
 abbrev pub zeros : ℕ → List ℕ
@@ -41,6 +41,12 @@ below-set b list i v s l k = go (ℕ-discrete k i) (decLt i (length list))
     go (no d) e = rw (getD-set-other list i k v 0 d) (s k)
     go (yes h) (yes in-range) = rw (h, getD-set-same list i v 0 in-range) l
     go (yes h) (no d) = rw (set-out list i v (omega arith)) (s k)
+
+-- a list that is given zeros only
+pub writes-zeros : (l : List ℕ) → writes l (length l) (λ j. 0) ≡ zeros (length l)
+writes-zeros l =
+    ext-getD 0 (writes l (length l) (λ j. 0)) (zeros (length l)) (length-writes l (λ j. 0) (length l) ∙ sym (length-replicate {A = ℕ} (length l) 0))
+    (λ t b. writes-in l (λ j. 0) (length l) t (omega (arith, length-writes l (λ j. 0) (length l))) (omega arith) ∙ sym (getD-zeros (length l) t))
 
 -- l in the front of zeros
 pub padded : (k n : ℕ) (l : List ℕ) → length l ≤ n → n ≤ k → (t : ℕ) → getD (stored n l (zeros k)) t 0 ≡ getD l t 0

@@ -2,10 +2,11 @@
 -- Assumes nothing.
 use mathlib.Core.List.{List}
 use mathlib.Core.Path.{_≡_, refl, sym, ap, _∙_}
-use Prim.Native.Nat.{ℕ, _+_, _-_, _≤_, _<_}
+use Prim.Native.Nat.{ℕ, _+_, _-_, _*_, _≤_, _<_}
+use native.Mathlib.Nat.{mul-suc, mul-le-mul-left}
 use native.Mathlib.Decide.{ℕ-discrete}
 use native.Mathlib.Omega.{arith}
-use lib.ListN.{replicate, length-replicate, getD-replicate}
+use lib.ListN.{getD, replicate, length-replicate, getD-replicate}
 use Rattle.field.specs.Plus.{plus}
 use Rattle.field.specs.Field.{Field}
 use Rattle.field.proofs.Plus.{zero-plus}
@@ -15,7 +16,7 @@ use Rattle.poly.specs.inner.Linear.{entry}
 use Rattle.poly.specs.inner.Lanes.{lanes}
 use Rattle.poly.specs.inner.Polynomials.{value, Terms}
 use Rattle.poly.proofs.LaneLaws.{lanes-at, lanes-below, is-lanes, lanes-cong}
-use Rattle.poly.proofs.Values.{value-lt, value-extend, horner-none, horner-more, horner-all}
+use Rattle.poly.proofs.Values.{value-lt, horner-none, horner-more, horner-all}
 
 -- dropping the zeros at the end: all coefficients, and one fewer
 pub terms-all : (f : ℕ → ℕ) (count : ℕ) → 1 ≤ count → Terms f count count
@@ -28,6 +29,13 @@ terms-turn f count i h more e =
       within = omega (arith, h .within);
       zeros = λ k a b. elim (ℕ-discrete k (i - 1)) [ yes d ↦ ap f d ∙ e | no d ↦ h .zeros k (omega arith) b ];
     }
+
+-- coefficient k, of those that stand stride apart from start on
+abbrev pub coefficient : List ℕ → ℕ → ℕ → ℕ → ℕ
+coefficient list start stride k = getD list (stride * k + start) 0
+
+pub coefficient-lt : (stride start i count n : ℕ) → i < count → start < stride → stride * count ≤ n → stride * i + start < n
+coefficient-lt stride start i count n h small fits = omega (arith, mul-suc stride i, mul-le-mul-left stride h)
 
 -- ---- in lanes: one polynomial f of n coefficients at sixteen places
 
@@ -64,5 +72,3 @@ module _ (F : Field) (n : ℕ) (f : ℕ → ℕ) (places : List ℕ) where
   ahead-all i now z is =
       is ∙ lanes-cong (λ t. value F (n - i) (λ k. f (i + k)) (entry places t)) (λ t. value F n f (entry places t))
       (λ t l. horner-all F n i f (entry places t) (value F (n - i) (λ k. f (i + k)) (entry places t)) z refl)
-
--- ---- at the places of a slice

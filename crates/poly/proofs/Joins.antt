@@ -209,6 +209,7 @@ module _ (F : Field) where
             some = low;
             more = high;
             even = omega arith;
+            smaller = omega arith;
             few = p .few;
             narrow = p .narrow;
             long = d .long ∙ p .long;

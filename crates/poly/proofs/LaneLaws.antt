@@ -1,13 +1,13 @@
 -- Sixteen numbers side by side: their number, each of them, where they are below a bound, and lists of at most sixteen as such.
 -- Assumes nothing.
 use mathlib.Core.List.{List}
-use mathlib.Core.Path.{_≡_, refl, sym, _∙_}
-use mathlib.Core.Logic.{_⊎_, ⊎-elim}
+use mathlib.Core.Path.{_≡_, sym, ap, _∙_}
 use Prim.Native.Nat.{ℕ, _≤_, _<_}
 use native.Mathlib.Decide.{decLt}
 use native.Mathlib.Omega.{arith}
-use lib.ListN.{length, replicate, length-replicate, List·getD-eq-default}
+use lib.ListN.{length, replicate, length-replicate, getD-replicate, List·getD-eq-default}
 use lib.Seq.{ext-getD}
+use Rattle.field.specs.Plus.{plus}
 use Rattle.poly.specs.inner.Ranges.{Below, writes}
 use Rattle.poly.specs.inner.Linear.{entry}
 use Rattle.poly.specs.inner.Rows.{stored}
@@ -48,6 +48,23 @@ module _ (f : ℕ → ℕ) where
 pub lanes-cong : (f g : ℕ → ℕ) → ((t : ℕ) → t < 16 → f t ≡ g t) → lanes f ≡ lanes g
 lanes-cong f g e = is-lanes g (lanes f) (length-lanes f) (λ t k. lanes-at f t k ∙ e t k)
 
+-- ---- the same number in every lane
+
+pub constant-below : (b c : ℕ) → c < b → Below b (replicate 16 c)
+constant-below b c h t = elim (decLt t 16) [
+  | yes l ↦ rw (getD-replicate 16 t c 0 l) h
+  | no d ↦ rw (List·getD-eq-default (replicate 16 c) 0 {n = t} (omega (arith, length-replicate {A = ℕ} 16 c))) (omega arith)
+]
+
+pub lanes-constant : (f : ℕ → ℕ → ℕ) (c : ℕ) → lanes (λ t. f t (entry (replicate 16 c) t)) ≡ lanes (λ t. f t c)
+lanes-constant f c = lanes-cong _ _ (λ t k. ap (f t) (getD-replicate 16 t c 0 k))
+
+pub lanes-plus-constant : (f : ℕ → ℕ) (a : List ℕ) (c : ℕ) → a ≡ lanes f
+    → lanes (λ t. plus (entry a t) (entry (replicate 16 c) t)) ≡ lanes (λ t. plus (f t) c)
+lanes-plus-constant f a c e =
+    lanes-constant (λ t u. plus (entry a t) u) c
+    ∙ lanes-cong _ _ (λ t k. ap (λ (v : ℕ). plus v c) (ap (λ (l : List ℕ). entry l t) e ∙ lanes-at f t k))
+
 -- ---- a list of at most sixteen, and zeros after it
 
 -- n stores, where no more are needed
@@ -56,15 +73,3 @@ unfolding stored
 lanes-first l n short fits =
     is-lanes (entry l) (writes (replicate 16 0) n (entry l)) (length-writes (replicate 16 0) (entry l) n ∙ length-replicate {A = ℕ} 16 0)
     (λ t k. padded 16 n l short fits t)
-
--- ---- two or four
-
-module _ (n : ℕ) (h : (n ≡ 2) ⊎ (n ≡ 4)) where
-  pub two-le : 2 ≤ n
-  two-le = ⊎-elim (λ e. omega arith) (λ e. omega arith) h
-
-  pub is-four : 2 < n → n ≡ 4
-  is-four l = ⊎-elim (λ e. omega arith) (λ e. e) h
-
-  pub is-two : n ≤ 2 → n ≡ 2
-  is-two l = ⊎-elim (λ e. e) (λ e. omega arith) h

@@ -20,6 +20,10 @@ pub stored-in : (n : ℕ) (src dst : List ℕ) (j : ℕ) → j < n → n ≤ len
 unfolding stored
 stored-in n src dst j h k = writes-in dst _ n j h k
 
+pub below-stored : (b n : ℕ) (src dst : List ℕ) → n ≤ length dst → Below b src → Below b dst → Below b (stored n src dst)
+unfolding stored
+below-stored b n src dst k hs hd = below-writes dst (λ j. getD src j 0) b n k hd (λ j h. hs j)
+
 -- a whole list in the place of another
 pub stored-all : (n : ℕ) (src dst : List ℕ) → length src ≡ n → length dst ≡ n → stored n src dst ≡ src
 stored-all n src dst ls ld =

@@ -14,7 +14,7 @@ use Rattle.field.specs.Plus.{plus}
 use Rattle.field.specs.Field.{Field}
 use Rattle.field.proofs.Fields.{fieldOf}
 use Rattle.field.proofs.FieldLaws.{zero-times, plus-times}
-use Rattle.field.proofs.Halves.{halves, low-half-lt, high-half-lt, two-le-half, two-times, two-times-half, plus-one}
+use Rattle.field.proofs.Halves.{halves, low-half-lt, high-half-lt, half-lt, two-le-half, two-times, two-times-half, plus-one}
 use Rattle.poly.specs.inner.Ranges.{Below, writes, part}
 use Rattle.poly.specs.inner.Linear.{entry}
 use Rattle.poly.specs.inner.Lanes.{lanes}
@@ -235,6 +235,10 @@ multiples-more q n a v table₀ table one small h d = record { at = λ s j l k. 
     go s j l k (no b) (yes e) = rw e (d .even j k ∙ even j k)
     go s j l k (no b) (no e) = let last : s ≡ 2 * a + 1 = omega arith in rw last (d .odd j k ∙ odd j k)
 
+-- fewer rows
+pub multiples-less : (F : Field) (n m count : ℕ) (v : ℕ → ℕ) (table : List ℕ) → m ≤ count → Multiples F n count v table → Multiples F n m v table
+multiples-less F n m count v table few h = record { at = λ s j l k. h .at s j (omega arith) k }
+
 pub table-doubled : (F : Field) (n count a : ℕ) (table₀ table : List ℕ) → 1 ≤ a → length table ≡ length table₀ → Table F n count table₀
     → Doubled F n a table₀ table → Table F n count table
 table-doubled F n count a table₀ table one long h d =
@@ -248,6 +252,38 @@ table-doubled F n count a table₀ table one long h d =
 pub multiples-cong : (F : Field) (n count : ℕ) (v w : ℕ → ℕ) (table : List ℕ) → ((j : ℕ) → j < n → v j ≡ w j) → Multiples F n count v table
     → Multiples F n count w table
 multiples-cong F n count v w table e h = record { at = λ s j l k. h .at s j l k ∙ ap (F .times s) (e j k) }
+
+-- rows 2 and 3, where they are asked for, are written; row 1 is as it was
+pub record Begun (q n : ℕ) (table₀ table : List ℕ) : Type 0 where
+  pub long : length table ≡ length table₀
+  pub formed : Table (fieldOf q) n (halfOf q) table
+  pub first : (j : ℕ) → j < n → entry table (n + j) ≡ entry table₀ (n + j)
+  pub rows : (m : ℕ) → m ≤ 2 * 2 → m ≤ halfOf q → Multiples (fieldOf q) n m (λ j. entry table (n + j)) table
+
+pub begun-doubled : (q n : ℕ) (table₀ table : List ℕ) → Table (fieldOf q) n (halfOf q) table₀ → length table ≡ length table₀
+    → Doubled (fieldOf q) n 1 table₀ table → Begun q n table₀ table
+begun-doubled q n table₀ table h long d = record {
+  long = long;
+  formed = table-doubled (fieldOf q) n (halfOf q) 1 table₀ table (omega arith) long h d;
+  first = same;
+  rows = λ m few most.
+      multiples-less (fieldOf q) n m (2 * (1 + 1)) (λ j. entry table (n + j)) table few
+      (multiples-cong (fieldOf q) n (2 * (1 + 1)) (λ j. entry table₀ (n + j)) (λ j. entry table (n + j)) table (λ j l. sym (same j l))
+      (multiples-more q n 1 (λ j. entry table₀ (n + j)) table₀ table (omega arith) (omega (arith, two-le-half q, half-lt q))
+      (multiples-two (fieldOf q) n (halfOf q) table₀ h) d));
+}
+  where
+    same : (j : ℕ) → j < n → entry table (n + j) ≡ entry table₀ (n + j)
+    same j l = d .kept (n + j) (omega arith)
+
+pub begun-alone : (q n : ℕ) (table₀ table : List ℕ) → Table (fieldOf q) n (halfOf q) table₀ → table ≡ table₀ → halfOf q ≤ 2 → Begun q n table₀ table
+begun-alone q n table₀ table h same small = rw same (record {
+  long = refl;
+  formed = h;
+  first = λ j l. refl;
+  rows = λ m few most.
+      multiples-less (fieldOf q) n m (2 * 1) (λ j. entry table₀ (n + j)) table₀ (omega arith) (multiples-two (fieldOf q) n (halfOf q) table₀ h);
+})
 
 -- ---- row 1 of a table, written
 

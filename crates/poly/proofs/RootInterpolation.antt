@@ -1,7 +1,6 @@
 -- Interpolation at the roots of x^u + x + a: what the turns of its loop leave, and that the polynomial takes the values.
 -- Assumes nothing.
 use mathlib.Core.List.{List}
-use mathlib.Core.Logic.{_⊎_, inl, inr}
 use mathlib.Core.Path.{_≡_, refl, sym, ap, ap₂, _∙_}
 use Prim.Native.Nat.{ℕ, suc, _+_, _-_, _≤_, _<_}
 use native.Mathlib.Decide.{decLt, ℕ-discrete}
@@ -25,10 +24,6 @@ use Rattle.poly.proofs.Entries.{below-set}
 use Rattle.poly.proofs.LaneLaws.{lanes-at, lanes-below, lanes-cong}
 use Rattle.poly.proofs.ClosedForm.{summed-value}
 
-pub two-or-four : (u : ℕ) → (u ≡ 2) ⊎ (u ≡ 4) → (h : ℕ) × (u ≡ h + h) × (1 ≤ h) × (h ≤ 2)
-two-or-four u (inl e) = (1, e, omega arith, omega arith)
-two-or-four u (inr e) = (2, e, omega arith, omega arith)
-
 -- each value times its place to the power e, and these side by side
 abbrev raised : Field → List ℕ → List ℕ → ℕ → ℕ → ℕ
 raised F places values e s = F .times (entry values s) (power F (entry places s) e)
@@ -45,10 +40,10 @@ pub record Summing (F : Field) (places values row₀ row v : List ℕ) (i : ℕ)
 
 module _ (F : Field) (places values row₀ : List ℕ) (h : Summable F places values row₀) where
   pub two-values : 2 ≤ length values
-  two-values = let w = two-or-four (length values) (h .even) in omega (arith, w .1, w .2)
+  two-values = let w = h .even in omega (arith, w .1, w .2)
 
-  few : length values ≤ 16
-  few = let w = two-or-four (length values) (h .even) in omega (arith, w .1, w .3)
+  pub few : length values ≤ 16
+  few = let w = h .even in omega (arith, w .1, w .3)
 
   raised-none : (v : List ℕ) → v ≡ lanes (entry values) → v ≡ raisedLanes F places values 0
   raised-none v e =
@@ -168,8 +163,8 @@ module _ (F : Field) (places values row₀ : List ℕ) (h : Summable F places va
               (rw is-c (F .plus-lt (entry row 0) (entry row (length values - 1)) first-below last-below));
         }
       where
-        w : (h : ℕ) × (length values ≡ h + h) × (1 ≤ h) × (h ≤ 2)
-        w = two-or-four (length values) (h .even)
+        w : (h : ℕ) × (length values ≡ h + h) × (1 ≤ h) × (h ≤ 8)
+        w = h .even
 
         one : length values ≡ suc (length values - 1)
         one = omega (arith, two-values)

@@ -1,6 +1,6 @@
 // Interpolation of w polynomials at once at a list of columns: by halves, and in place. A row of 16 symbols is given for each column.
 ghost use mathlib.Core.Path.{_≡_};
-ghost use Prim.Native.Nat.{ℕ, _+_, _*_, _≤_, _<_};
+ghost use Prim.Native.Nat.{ℕ, _+_, _-_, _*_, _≤_, _<_};
 ghost use lib.ListN.{length, getD, replicate};
 ghost use Rattle.field.specs.Plus.{plus};
 ghost use Rattle.field.proofs.Fields.{fieldOf};
@@ -10,15 +10,15 @@ ghost use Rattle.poly.specs.inner.Lanes.{lanes};
 ghost use Rattle.poly.specs.inner.Linear.{entry};
 ghost use Rattle.poly.specs.inner.Rows.{scaled};
 ghost use Rattle.poly.specs.inner.Polynomials.{Vanishing};
-ghost use Rattle.poly.specs.inner.Interpolation.{crossed, Crossable, Padded, Placed, Written, Halves, Combined};
-ghost use Rattle.poly.specs.inner.Interpolation.{Tree, Joinable, Joined, Slopes, Divided, VanishingTree, Interpolated};
+ghost use Rattle.poly.specs.inner.Interpolation.{crossed, Crossable, Padded, Placed, Written, Halves, Combined, ProductAdded};
+ghost use Rattle.poly.specs.inner.Interpolation.{Tree, Joinable, Joined, SlopesAt, RowsDivided, Divided, VanishingTree, Interpolated};
 use crate::lanes;
 use crate::polynomial;
 use crate::rows;
 
-// a + c * the sixteen elements of src from at on. Where c is 1, as it often is, no product is worked out.
+// a + c * the sixteen elements of src from at on, of short blocks. Where c is 1, as it often is, no product is worked out.
 fn add(q: u8, c: u8, src: &[u8; 112], at: usize, a: &[u8; 16]) -> [u8; 16]
-    requires { ⌜ (c < fieldOf q .size) × Below (fieldOf q .size) (now src) × (at + 16 ≤ 112) ⌝ }
+    requires { ⌜ (c < fieldOf q .size) × Below (fieldOf q .size) (now src) × (at + 16 ≤ 112) × (q ≡ 8 → ⊥) ⌝ }
     ensures { λ r. ⌜ r ≡ lanes (λ t. plus (entry (now (a .entry)) t) (fieldOf q .times (getD (now (src .entry)) (at + t) 0) c)) ⌝ }
 {
     let b = lanes::take(src, at);
@@ -39,7 +39,7 @@ fn cross(
     right: &[u8; 112],
     at: usize,
 ) -> [u8; 16]
-    requires { ⌜ Crossable (fieldOf q) w (now f) (now g) (now left) (now right) at ⌝ }
+    requires { ⌜ Crossable (fieldOf q) w (now f) (now g) (now left) (now right) at × (q ≡ 8 → ⊥) ⌝ }
     ensures { λ r. ⌜ r ≡ lanes (λ t. crossed (fieldOf q) w (length (now (f .entry))) (now (f .entry)) (now (g .entry))
         (now (left .entry)) (now (right .entry)) (at + t)) ⌝ }
 {
@@ -86,7 +86,7 @@ fn write_crossed(
     right: &[u8; 112],
     work: &mut [u8],
 )
-    requires { ⌜ Crossable (fieldOf q) w (now f) (now g) (now left) (now right) 48 × (n ≤ 64) ⌝ }
+    requires { ⌜ Crossable (fieldOf q) w (now f) (now g) (now left) (now right) 48 × (n ≤ 64) × (q ≡ 8 → ⊥) ⌝ }
     requires { ⌜ ((b : ℕ) → 16 * b < n → 16 * b + 16 ≤ length (now work)) × Below (fieldOf q .size) (now work) ⌝ }
     ensures { λ _. ⌜ Written n (λ p. crossed (fieldOf q) w (length (now (f .entry))) (now (f .entry)) (now (g .entry))
         (now (left .entry)) (now (right .entry)) (48 + p)) (now (work .exit))
@@ -101,9 +101,10 @@ fn write_crossed(
     }
 }
 
-// Joins the two halves of c columns, the first h and the others, which are joined: each times the vanishing polynomial of the other.
-fn combine(q: u8, w: usize, h: usize, c: usize, f: &[u8], g: &[u8], work: &mut [u8])
-    requires { ⌜ Halves (fieldOf q) w h c (now f) (now g) (now work) ⌝ }
+// Joins the two halves of c columns of a short block, the first h and the others, which are joined: each times the vanishing polynomial of
+// the other. Copies with zeros around them are read sixteen numbers at a time.
+fn combine_by_windows(q: u8, w: usize, h: usize, c: usize, f: &[u8], g: &[u8], work: &mut [u8])
+    requires { ⌜ Halves (fieldOf q) w h c (now f) (now g) (now work) × (w ≤ 4) × (c ≤ 16) × (q ≡ 8 → ⊥) ⌝ }
     ensures { λ _. ⌜ Combined (fieldOf q) w h c (now (f .entry)) (now (g .entry)) (now (work .entry)) (now (work .exit)) ⌝ }
 {
     let half = 16 * h;
@@ -114,10 +115,46 @@ fn combine(q: u8, w: usize, h: usize, c: usize, f: &[u8], g: &[u8], work: &mut [
     write_crossed(q, w, w * c, f, g, &left, &right, work);
 }
 
+// Adds to work the first n elements of src times f, of long blocks: f[i] times them, from w·i on.
+fn add_product(w: usize, n: usize, f: &[u8], src: &[u8], work: &mut [u8])
+    requires { ⌜ (n ≤ length (now src)) × (w * length (now f) + n ≤ length (now work) + w) ⌝ }
+    requires { ⌜ Below (fieldOf 8 .size) (now f) × Below (fieldOf 8 .size) (now src) × Below (fieldOf 8 .size) (now work) ⌝ }
+    ensures { λ _. ⌜ ProductAdded (fieldOf 8) w n (now (f .entry)) (now (src .entry)) (now (work .entry)) (now (work .exit)) (length (now (f .entry))) ⌝ }
+{
+    let mut i = 0;
+    let mut at = 0;
+    while i < f.len() {
+        if f[i] != 0 {
+            let end = at + n;
+            rows::add_scaled_long(f[i], n, src, &mut work[at..end]);
+        }
+        at += w;
+        i += 1;
+    }
+}
+
+// Joins the two halves of c columns of a long block, row by row. Its arrays are larger than they need be, more than 1024 bytes, with which
+// the compiler keeps it a call, and their room out of `join`'s own frames.
+fn combine_by_rows(w: usize, h: usize, c: usize, f: &[u8], g: &[u8], work: &mut [u8])
+    requires { ⌜ Halves (fieldOf 8) w h c (now f) (now g) (now work) ⌝ }
+    ensures { λ _. ⌜ Combined (fieldOf 8) w h c (now (f .entry)) (now (g .entry)) (now (work .entry)) (now (work .exit)) ⌝ }
+{
+    let half = 16 * h;
+    let n = w * h;
+    let rest = w * (c - h);
+    let mut left = [0u8; 512];
+    let mut right = [0u8; 528];
+    rows::copy(n, work, &mut left);
+    rows::copy(rest, &work[half..], &mut right);
+    rows::clear(work);
+    add_product(w, n, g, &left, work);
+    add_product(w, rest, f, &right, work);
+}
+
 // Multiplies the row of each of two columns or more by the vanishing polynomial of the other columns, and adds them up: by halves, until
 // one column is left.
 pub fn join(q: u8, w: usize, columns: &[u8], stride: usize, tree: &[u8], at: usize, work: &mut [u8])
-    requires { ⌜ Joinable (fieldOf q) w (now columns) (now work) × (2 ≤ length (now columns)) ⌝ }
+    requires { ⌜ Joinable (fieldOf q) w (now columns) (now work) × (2 ≤ length (now columns)) × ((q ≡ 8 → ⊥) → (w ≤ 4) × (length (now columns) ≤ 16)) ⌝ }
     requires { ⌜ Tree (fieldOf q) stride (now tree) at (now columns) × Below (fieldOf q .size) (now tree) ⌝ }
     requires { ⌜ (stride ≤ 128) × (length (now tree) ≤ 1024) ⌝ }
     ensures { λ _. ⌜ Joined (fieldOf q) w (now (columns .entry)) (now (work .entry)) (now (work .exit)) ⌝ }
@@ -135,57 +172,85 @@ pub fn join(q: u8, w: usize, columns: &[u8], stride: usize, tree: &[u8], at: usi
     }
     let mid = at + (c - h + 1);
     let end = mid + (c - h + 1);
-    combine(q, w, h, c, &tree[at..mid], &tree[mid..end], work);
+    if q == 8 {
+        combine_by_rows(w, h, c, &tree[at..mid], &tree[mid..end], work);
+    } else {
+        combine_by_windows(q, w, h, c, &tree[at..mid], &tree[mid..end], work);
+    }
 }
 
-// Divides a row by v.
+// Divides a row of sixteen by v.
 fn divide_row(q: u8, v: u8, row: &mut [u8])
-    requires { ⌜ (v < fieldOf q .size) × (v ≡ 0 → ⊥) × Below (fieldOf q .size) (now row) ⌝ }
+    requires { ⌜ (v < fieldOf q .size) × (v ≡ 0 → ⊥) × Below (fieldOf q .size) (now row) × (length (now row) ≡ 16) ⌝ }
     ensures { λ _. ⌜ now (row .exit) ≡ scaled (fieldOf q) (fieldOf q .inverse v) (length (now (row .entry))) (now (row .entry)) ⌝ }
 {
     if v == 1 {
         return;
     }
     let c = field::symbol::inverse(q, v);
-    let n = row.len();
-    rows::scale(q, c, n, row);
+    let a = lanes::take(row, 0);
+    let b = lanes::scale(q, c, &a);
+    rows::copy(16, &b, row);
 }
 
-// The values at the columns of the derivative of their vanishing polynomial.
-fn slopes(q: u8, columns: &[u8], vanishing: &[u8]) -> [u8; 16]
-    requires { ⌜ Below (fieldOf q .size) (now columns) × (1 ≤ length (now columns)) × (length (now columns) ≤ 16) ⌝ }
+// The values of the derivative of the columns' vanishing polynomial at sixteen of the columns, or as many as are left, from number `from` on.
+fn slopes(q: u8, columns: &[u8], from: usize, to: usize, vanishing: &[u8]) -> [u8; 16]
+    requires { ⌜ Below (fieldOf q .size) (now columns) × (from < to) × (to ≤ length (now columns)) × (to ≤ from + 16) ⌝ }
     requires { ⌜ Vanishing (fieldOf q) (now columns) (now vanishing) ⌝ }
-    ensures { λ r. ⌜ Slopes (fieldOf q) (now (columns .entry)) r ⌝ }
+    ensures { λ r. ⌜ SlopesAt (fieldOf q) (now (columns .entry)) from to r ⌝ }
 {
-    let c = columns.len();
     let mut places = [0u8; 16];
-    rows::copy(c, columns, &mut places);
+    rows::copy(to - from, &columns[from..to], &mut places);
     let squares = lanes::multiply(q, &places, &places);
-    let n = polynomial::terms(vanishing, 1, 2, (c + 1) / 2);
-    polynomial::evaluate(q, vanishing, 1, 2, n, &squares)
+    let n = polynomial::terms(vanishing, 1, 2, (columns.len() + 1) / 2);
+    if q == 8 {
+        return polynomial::evaluate_long(vanishing, 1, 2, n, &squares);
+    }
+    polynomial::evaluate_short(q, vanishing, 1, 2, n, &squares)
+}
+
+// Divides the rows of the columns number from to number to, sixteen at most, by the derivative's values there.
+fn divide_rows(q: u8, columns: &[u8], from: usize, to: usize, vanishing: &[u8], rows: &mut [u8])
+    requires { ⌜ Below (fieldOf q .size) (now columns) × (from < to) × (to ≤ length (now columns)) × (to ≤ from + 16) × Nodup (now columns) ⌝ }
+    requires { ⌜ Vanishing (fieldOf q) (now columns) (now vanishing) ⌝ }
+    requires { ⌜ (length (now rows) ≡ 16 * (to - from)) × Below (fieldOf q .size) (now rows) ⌝ }
+    ensures { λ _. ⌜ RowsDivided (fieldOf q) (now (columns .entry)) from (to - from) (now (rows .entry)) (now (rows .exit)) ⌝ }
+{
+    let slopes = slopes(q, columns, from, to, vanishing);
+    let count = to - from;
+    let mut t = 0;
+    let mut at = 0;
+    while t < count {
+        let end = at + 16;
+        divide_row(q, slopes[t], &mut rows[at..end]);
+        at = end;
+        t += 1;
+    }
 }
 
 // Divides the row of each column by the derivative's value there.
 fn divide(q: u8, columns: &[u8], vanishing: &[u8], work: &mut [u8])
-    requires { ⌜ Below (fieldOf q .size) (now columns) × (1 ≤ length (now columns)) × (length (now columns) ≤ 16) × Nodup (now columns) ⌝ }
+    requires { ⌜ Below (fieldOf q .size) (now columns) × (length (now columns) ≤ 64) × Nodup (now columns) ⌝ }
     requires { ⌜ Vanishing (fieldOf q) (now columns) (now vanishing) ⌝ }
     requires { ⌜ (length (now work) ≡ 16 * length (now columns)) × Below (fieldOf q .size) (now work) ⌝ }
     ensures { λ _. ⌜ Divided (fieldOf q) (now (columns .entry)) (now (work .entry)) (now (work .exit)) ⌝ }
 {
-    let slopes = slopes(q, columns, vanishing);
-    let mut t = 0;
-    let mut at = 0;
-    while t < columns.len() {
-        let end = at + 16;
-        divide_row(q, slopes[t], &mut work[at..end]);
-        at = end;
-        t += 1;
+    let c = columns.len();
+    let mut from = 0;
+    while from < c {
+        let left = c - from;
+        let to = if left < 16 { c } else { from + 16 };
+        let at = 16 * from;
+        let end = 16 * to;
+        divide_rows(q, columns, from, to, vanishing, &mut work[at..end]);
+        from = to;
     }
 }
 
 // The polynomials that take at each column the first w numbers of its row.
 pub fn interpolate(q: u8, w: usize, columns: &[u8], tree: &[u8], work: &mut [u8])
     requires { ⌜ Joinable (fieldOf q) w (now columns) (now work) × (1 ≤ length (now columns)) × Nodup (now columns) ⌝ }
+    requires { ⌜ ((q ≡ 8 → ⊥) → (w ≤ 4) × (length (now columns) ≤ 16)) ⌝ }
     requires { ⌜ VanishingTree (fieldOf q) (now columns) (now tree) ⌝ }
     ensures { λ _. ⌜ Interpolated (fieldOf q) 16 w (now (columns .entry)) (now (work .entry)) (now (work .exit)) ⌝ }
 {

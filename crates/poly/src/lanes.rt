@@ -1,5 +1,4 @@
 // Sixteen symbols at once. Each loop has sixteen turns, and becomes vector code.
-ghost use mathlib.Core.Logic.{_⊎_};
 ghost use mathlib.Core.Path.{_≡_};
 ghost use Prim.Native.Nat.{_+_, _≤_, _<_};
 ghost use lib.ListN.{length, getD};
@@ -10,6 +9,7 @@ ghost use Rattle.poly.specs.inner.Ranges.{Below};
 ghost use Rattle.poly.specs.inner.Linear.{entry};
 ghost use Rattle.poly.specs.inner.Rows.{stored};
 ghost use Rattle.poly.specs.inner.Lanes.{lanes};
+use crate::rows;
 
 // Sixteen elements from at on.
 pub fn take(list: &[u8], at: usize) -> [u8; 16]
@@ -25,31 +25,57 @@ pub fn take(list: &[u8], at: usize) -> [u8; 16]
     r
 }
 
-// The elements of a list of 2 or 4, and zeros.
-pub fn load(list: &[u8]) -> [u8; 16]
-    requires { ⌜ (length (now list) ≡ 2) ⊎ (length (now list) ≡ 4) ⌝ }
+fn load_four(list: &[u8]) -> [u8; 16]
+    requires { ⌜ length (now list) ≡ 4 ⌝ }
     ensures { λ r. ⌜ r ≡ lanes (entry (now (list .entry))) ⌝ }
 {
     let mut r = [0u8; 16];
     r[0] = list[0];
     r[1] = list[1];
-    if 2 < list.len() {
-        r[2] = list[2];
-        r[3] = list[3];
-    }
+    r[2] = list[2];
+    r[3] = list[3];
     r
 }
 
-// The elements of out, 2 or 4, become the first of the lanes.
-pub fn store(a: &[u8; 16], out: &mut [u8])
-    requires { ⌜ (length (now out) ≡ 2) ⊎ (length (now out) ≡ 4) ⌝ }
+fn load_few(list: &[u8]) -> [u8; 16]
+    requires { ⌜ length (now list) ≤ 16 ⌝ }
+    ensures { λ r. ⌜ r ≡ lanes (entry (now (list .entry))) ⌝ }
+{
+    let mut r = [0u8; 16];
+    rows::copy(list.len(), list, &mut r);
+    r
+}
+
+// The elements of a list, and zeros. Four, as the strap's columns have, are loaded without a loop.
+pub fn load(list: &[u8]) -> [u8; 16]
+    requires { ⌜ length (now list) ≤ 16 ⌝ }
+    ensures { λ r. ⌜ r ≡ lanes (entry (now (list .entry))) ⌝ }
+{
+    if list.len() == 4 {
+        return load_four(list);
+    }
+    load_few(list)
+}
+
+fn store_four(a: &[u8; 16], out: &mut [u8])
+    requires { ⌜ length (now out) ≡ 4 ⌝ }
     ensures { λ _. ⌜ now (out .exit) ≡ stored (length (now (out .entry))) (now (a .entry)) (now (out .entry)) ⌝ }
 {
     out[0] = a[0];
     out[1] = a[1];
-    if 2 < out.len() {
-        out[2] = a[2];
-        out[3] = a[3];
+    out[2] = a[2];
+    out[3] = a[3];
+}
+
+// The elements of out become the first of the lanes.
+pub fn store(a: &[u8; 16], out: &mut [u8])
+    requires { ⌜ length (now out) ≤ 16 ⌝ }
+    ensures { λ _. ⌜ now (out .exit) ≡ stored (length (now (out .entry))) (now (a .entry)) (now (out .entry)) ⌝ }
+{
+    if out.len() == 4 {
+        store_four(a, out);
+    } else {
+        rows::copy(out.len(), a, out);
     }
 }
 
@@ -79,18 +105,43 @@ pub fn plus(a: &[u8; 16], b: &[u8; 16]) -> [u8; 16]
     r
 }
 
-// a * b, lane by lane
-pub fn multiply(q: u8, a: &[u8; 16], b: &[u8; 16]) -> [u8; 16]
-    requires { ⌜ Below (fieldOf q .size) (now a) × Below (fieldOf q .size) (now b) ⌝ }
+// a * b, lane by lane, of short blocks
+pub fn multiply_short(q: u8, a: &[u8; 16], b: &[u8; 16]) -> [u8; 16]
+    requires { ⌜ Below (fieldOf q .size) (now a) × Below (fieldOf q .size) (now b) × (q ≡ 8 → ⊥) ⌝ }
     ensures { λ r. ⌜ r ≡ lanes (λ t. fieldOf q .times (entry (now (a .entry)) t) (entry (now (b .entry)) t)) ⌝ }
 {
     let mut r = [0u8; 16];
     let mut t = 0;
     while t < 16 {
-        r[t] = field::symbol::times(q, a[t], b[t]);
+        r[t] = field::symbol::times_short(q, a[t], b[t]);
         t += 1;
     }
     r
+}
+
+// a * b, lane by lane, of long blocks
+pub fn multiply_long(a: &[u8; 16], b: &[u8; 16]) -> [u8; 16]
+    requires { ⌜ Below (fieldOf 8 .size) (now a) × Below (fieldOf 8 .size) (now b) ⌝ }
+    ensures { λ r. ⌜ r ≡ lanes (λ t. fieldOf 8 .times (entry (now (a .entry)) t) (entry (now (b .entry)) t)) ⌝ }
+{
+    let mut r = [0u8; 16];
+    let mut t = 0;
+    while t < 16 {
+        r[t] = field::symbol::times_long(a[t], b[t]);
+        t += 1;
+    }
+    r
+}
+
+// a * b, lane by lane
+pub fn multiply(q: u8, a: &[u8; 16], b: &[u8; 16]) -> [u8; 16]
+    requires { ⌜ Below (fieldOf q .size) (now a) × Below (fieldOf q .size) (now b) ⌝ }
+    ensures { λ r. ⌜ r ≡ lanes (λ t. fieldOf q .times (entry (now (a .entry)) t) (entry (now (b .entry)) t)) ⌝ }
+{
+    if q == 8 {
+        return multiply_long(a, b);
+    }
+    multiply_short(q, a, b)
 }
 
 // z * a
@@ -113,40 +164,44 @@ pub fn scale(q: u8, c: u8, a: &[u8; 16]) -> [u8; 16]
     ensures { λ r. ⌜ r ≡ lanes (λ t. fieldOf q .times (entry (now (a .entry)) t) c) ⌝ }
 {
     let factor = [c; 16];
-    let mut r = [0u8; 16];
-    let mut t = 0;
-    while t < 16 {
-        r[t] = field::symbol::times(q, a[t], factor[t]);
-        t += 1;
-    }
-    r
+    multiply(q, a, &factor)
 }
 
-// a + b * c
+// a + b * c, of short blocks
 pub fn add_scaled(q: u8, c: u8, a: &[u8; 16], b: &[u8; 16]) -> [u8; 16]
-    requires { ⌜ (c < fieldOf q .size) × Below (fieldOf q .size) (now b) ⌝ }
+    requires { ⌜ (c < fieldOf q .size) × Below (fieldOf q .size) (now b) × (q ≡ 8 → ⊥) ⌝ }
     ensures { λ r. ⌜ r ≡ lanes (λ t. plus (entry (now (a .entry)) t) (fieldOf q .times (entry (now (b .entry)) t) c)) ⌝ }
 {
     let factor = [c; 16];
     let mut r = [0u8; 16];
     let mut t = 0;
     while t < 16 {
-        r[t] = a[t] ^ field::symbol::times(q, b[t], factor[t]);
+        r[t] = a[t] ^ field::symbol::times_short(q, b[t], factor[t]);
         t += 1;
     }
     r
 }
 
-// Horner's step: a * b, and c in every lane.
-pub fn step(q: u8, c: u8, a: &[u8; 16], b: &[u8; 16]) -> [u8; 16]
-    requires { ⌜ Below (fieldOf q .size) (now a) × Below (fieldOf q .size) (now b) ⌝ }
+// Horner's step, of short blocks: a * b, and c in every lane.
+pub fn step_short(q: u8, c: u8, a: &[u8; 16], b: &[u8; 16]) -> [u8; 16]
+    requires { ⌜ Below (fieldOf q .size) (now a) × Below (fieldOf q .size) (now b) × (q ≡ 8 → ⊥) ⌝ }
     ensures { λ r. ⌜ r ≡ lanes (λ t. plus (fieldOf q .times (entry (now (a .entry)) t) (entry (now (b .entry)) t)) c) ⌝ }
 {
     let mut r = [0u8; 16];
     let mut t = 0;
     while t < 16 {
-        r[t] = field::symbol::times(q, a[t], b[t]) ^ c;
+        r[t] = field::symbol::times_short(q, a[t], b[t]) ^ c;
         t += 1;
     }
     r
+}
+
+// The same of long blocks.
+pub fn step_long(c: u8, a: &[u8; 16], b: &[u8; 16]) -> [u8; 16]
+    requires { ⌜ Below (fieldOf 8 .size) (now a) × Below (fieldOf 8 .size) (now b) ⌝ }
+    ensures { λ r. ⌜ r ≡ lanes (λ t. plus (fieldOf 8 .times (entry (now (a .entry)) t) (entry (now (b .entry)) t)) c) ⌝ }
+{
+    let product = multiply_long(a, b);
+    let constant = [c; 16];
+    plus(&product, &constant)
 }

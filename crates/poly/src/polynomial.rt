@@ -24,8 +24,8 @@ pub fn terms(list: &[u8], start: usize, stride: usize, count: usize) -> usize
     i
 }
 
-// The polynomial with these coefficients at each of sixteen places, by Horner's rule.
-pub fn evaluate(
+// The polynomial with these coefficients at each of sixteen places, by Horner's rule, of short blocks.
+pub fn evaluate_short(
     q: u8,
     list: &[u8],
     start: usize,
@@ -33,7 +33,7 @@ pub fn evaluate(
     count: usize,
     places: &[u8; 16],
 ) -> [u8; 16]
-    requires { ⌜ Below (fieldOf q .size) (now list) × Below (fieldOf q .size) (now places) ⌝ }
+    requires { ⌜ Below (fieldOf q .size) (now list) × Below (fieldOf q .size) (now places) × (q ≡ 8 → ⊥) ⌝ }
     requires { ⌜ (1 ≤ count) × (start < stride) × (stride * count ≤ length (now list)) ⌝ }
     ensures { λ r. ⌜ r ≡ lanes (λ t. value (fieldOf q) count (λ i. getD (now (list .entry)) (stride * i + start) 0)
         (entry (now (places .entry)) t)) ⌝ }
@@ -42,7 +42,29 @@ pub fn evaluate(
     let mut values = [list[stride * i + start]; 16];
     while 0 < i {
         i -= 1;
-        values = lanes::step(q, list[stride * i + start], places, &values);
+        values = lanes::step_short(q, list[stride * i + start], places, &values);
+    }
+    values
+}
+
+// The same of long blocks.
+pub fn evaluate_long(
+    list: &[u8],
+    start: usize,
+    stride: usize,
+    count: usize,
+    places: &[u8; 16],
+) -> [u8; 16]
+    requires { ⌜ Below (fieldOf 8 .size) (now list) × Below (fieldOf 8 .size) (now places) ⌝ }
+    requires { ⌜ (1 ≤ count) × (start < stride) × (stride * count ≤ length (now list)) ⌝ }
+    ensures { λ r. ⌜ r ≡ lanes (λ t. value (fieldOf 8) count (λ i. getD (now (list .entry)) (stride * i + start) 0)
+        (entry (now (places .entry)) t)) ⌝ }
+{
+    let mut i = count - 1;
+    let mut values = [list[stride * i + start]; 16];
+    while 0 < i {
+        i -= 1;
+        values = lanes::step_long(list[stride * i + start], places, &values);
     }
     values
 }

@@ -21,13 +21,13 @@ pub enum Effect {
 // start + a[0] * b[0] + .. + a[n - 1] * b[n - 1]
 fn dot(q: u8, start: u8, n: usize, a: &[u8], b: &[u8]) -> u8
     requires { ⌜ (n ≤ length (now a)) × (n ≤ length (now b)) ⌝ }
-    requires { ⌜ ((j : ℕ) → j < n → (entry (now a) j < fieldOf q .size) × (entry (now b) j < fieldOf q .size)) ⌝ }
+    requires { ⌜ ((j : ℕ) → j < n → (entry (now a) j < fieldOf q .size) × (entry (now b) j < fieldOf q .size)) × (q ≡ 8 → ⊥) ⌝ }
     ensures { λ r. ⌜ r ≡ plus start (dot (fieldOf q) n (entry (now (a .entry))) (entry (now (b .entry)))) ⌝ }
 {
     let mut r = start;
     let mut j = 0;
     while j < n {
-        r = r ^ field::symbol::times(q, a[j], b[j]);
+        r = r ^ field::symbol::times_short(q, a[j], b[j]);
         j += 1;
     }
     r
@@ -36,7 +36,7 @@ fn dot(q: u8, start: u8, n: usize, a: &[u8], b: &[u8]) -> u8
 // Takes the rows of work that are present out of row. Answers 0 where no coefficient is left, and else one more than the
 // place of the last that is left, where work has no row. The first 16 times blocks elements of a row are added, k and more.
 fn reduce(q: u8, stride: usize, blocks: usize, k: usize, work: &[u8], row: &mut [u8]) -> usize
-    requires { ⌜ WellFormed (fieldOf q) stride k (now work) × Equation (fieldOf q) k (now row) ⌝ }
+    requires { ⌜ WellFormed (fieldOf q) stride k (now work) × Equation (fieldOf q) k (now row) × (q ≡ 8 → ⊥) ⌝ }
     requires { ⌜ (k < 16 * blocks) × (16 * blocks ≤ stride) × (16 * blocks ≤ length (now row)) ⌝ }
     ensures { λ r. ⌜ Reduced (fieldOf q) k (flat stride k (now (work .entry))) (now (row .entry)) (now (row .exit)) r ⌝ }
 {
@@ -59,7 +59,7 @@ fn reduce(q: u8, stride: usize, blocks: usize, k: usize, work: &[u8], row: &mut 
 
 // Stores row, scaled so that its coefficient at i is 1, as row i of work.
 fn place(q: u8, stride: usize, k: usize, i: usize, work: &mut [u8], row: &mut [u8])
-    requires { ⌜ WellFormed (fieldOf q) stride k (now work) × Equation (fieldOf q) k (now row) ⌝ }
+    requires { ⌜ WellFormed (fieldOf q) stride k (now work) × Equation (fieldOf q) k (now row) × (q ≡ 8 → ⊥) ⌝ }
     requires { ⌜ (i < k) × (entry (now row) i ≡ 0 → ⊥) ⌝ }
     ensures { λ _. ⌜ now (work .exit) ≡ placed stride (k + 1) i (divided (fieldOf q) i (k + 1) (now (row .entry))) (now (work .entry)) ⌝ }
 {
@@ -80,7 +80,7 @@ pub fn bring_in(
     work: &mut [u8],
     row: &mut [u8],
 ) -> Effect
-    requires { ⌜ WellFormed (fieldOf q) stride k (now work) × Equation (fieldOf q) k (now row) ⌝ }
+    requires { ⌜ WellFormed (fieldOf q) stride k (now work) × Equation (fieldOf q) k (now row) × (q ≡ 8 → ⊥) ⌝ }
     requires { ⌜ (k < 16 * blocks) × (16 * blocks ≤ stride) × (16 * blocks ≤ length (now row)) ⌝ }
     ensures { λ r. ⌜ WellFormed (fieldOf q) stride k (now (work .exit)) ⌝ }
     ensures { λ r. ⌜ Brought (fieldOf q) stride k (now (work .entry)) (entry (now (row .entry))) (now (work .exit)) r ⌝ }
@@ -98,7 +98,7 @@ pub fn bring_in(
 
 // Forward substitution: the first k elements of message become a solution, where all k rows are present the only one.
 pub fn solve(q: u8, stride: usize, k: usize, work: &[u8], message: &mut [u8])
-    requires { ⌜ WellFormed (fieldOf q) stride k (now work) × (k ≤ length (now message)) ⌝ }
+    requires { ⌜ WellFormed (fieldOf q) stride k (now work) × (k ≤ length (now message)) × (q ≡ 8 → ⊥) ⌝ }
     ensures { λ _. ⌜ Solution (fieldOf q) k (flat stride k (now (work .entry))) (now (message .exit)) ⌝ }
 {
     let mut p = 0;
@@ -128,7 +128,7 @@ fn free_unknown(stride: usize, k: usize, work: &[u8]) -> usize
 
 // Brings in the equation that unknown p, which has no row, is 1.
 fn fix(q: u8, stride: usize, blocks: usize, k: usize, p: usize, work: &mut [u8])
-    requires { ⌜ WellFormed (fieldOf q) stride k (now work) × (p < k) × T (not (flat stride k (now work) .present p)) ⌝ }
+    requires { ⌜ WellFormed (fieldOf q) stride k (now work) × (p < k) × T (not (flat stride k (now work) .present p)) × (q ≡ 8 → ⊥) ⌝ }
     requires { ⌜ (k < 16 * blocks) × (16 * blocks ≤ stride) × (16 * blocks ≤ 64) ⌝ }
     ensures { λ _. ⌜ WellFormed (fieldOf q) stride k (now (work .exit)) ⌝ }
     ensures { λ _. ⌜ Fixed (fieldOf q) k (flat stride k (now (work .entry))) p (flat stride k (now (work .exit))) ⌝ }
@@ -149,7 +149,7 @@ pub fn solve_nonzero(
     work: &mut [u8],
     message: &mut [u8],
 ) -> bool
-    requires { ⌜ WellFormed (fieldOf q) stride k (now work) × (k ≤ length (now message)) ⌝ }
+    requires { ⌜ WellFormed (fieldOf q) stride k (now work) × (k ≤ length (now message)) × (q ≡ 8 → ⊥) ⌝ }
     requires { ⌜ (k < 16 * blocks) × (16 * blocks ≤ stride) × (16 * blocks ≤ 64) ⌝ }
     ensures { λ r. ⌜ NonzeroSolved (fieldOf q) k (flat stride k (now (work .entry))) (now (message .exit)) r ⌝ }
 {

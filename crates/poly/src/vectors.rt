@@ -32,16 +32,40 @@ fn pivot(high: &[u8], v: &[u8]) -> usize
     0
 }
 
-// factors[s] = s * c for each symbol s.
-fn write_factors(q: u8, c: u8, factors: &mut [u8])
-    requires { ⌜ (c < fieldOf q .size) × (length (now factors) ≡ fieldOf q .size) ⌝ }
+// factors[s] = s * c for each symbol s, of short blocks.
+fn write_factors_short(q: u8, c: u8, factors: &mut [u8])
+    requires { ⌜ (c < fieldOf q .size) × (length (now factors) ≡ fieldOf q .size) × (q ≡ 8 → ⊥) ⌝ }
     ensures { λ _. ⌜ now (factors .exit) ≡ writes (now (factors .entry)) (fieldOf q .size) (λ s. fieldOf q .times s c) ⌝ }
 {
     let factor = [c; 64];
     let mut s = 0;
     while s < factors.len() {
-        factors[s] = field::symbol::times(q, s as u8, factor[s]);
+        factors[s] = field::symbol::times_short(q, s as u8, factor[s]);
         s += 1;
+    }
+}
+
+// The same of long blocks.
+fn write_factors_long(c: u8, factors: &mut [u8])
+    requires { ⌜ (c < fieldOf 8 .size) × (length (now factors) ≡ fieldOf 8 .size) ⌝ }
+    ensures { λ _. ⌜ now (factors .exit) ≡ writes (now (factors .entry)) (fieldOf 8 .size) (λ s. fieldOf 8 .times s c) ⌝ }
+{
+    let factor = [c; 64];
+    let mut s = 0;
+    while s < factors.len() {
+        factors[s] = field::symbol::times_long(s as u8, factor[s]);
+        s += 1;
+    }
+}
+
+fn write_factors(q: u8, c: u8, factors: &mut [u8])
+    requires { ⌜ (c < fieldOf q .size) × (length (now factors) ≡ fieldOf q .size) ⌝ }
+    ensures { λ _. ⌜ now (factors .exit) ≡ writes (now (factors .entry)) (fieldOf q .size) (λ s. fieldOf q .times s c) ⌝ }
+{
+    if q == 8 {
+        write_factors_long(c, factors);
+    } else {
+        write_factors_short(q, c, factors);
     }
 }
 
@@ -69,14 +93,18 @@ fn double(q: u8, n: usize, a: usize, table: &mut [u8])
     }
 }
 
-// Row s of the table becomes s times row 1, for each s below the half of the symbols' bits.
+// Row s of the table becomes s times row 1, for each s below the half of the symbols' bits. Rows 2 and 3, the only ones of the strap's
+// curve, are written before the loop.
 fn write_multiples(q: u8, n: usize, table: &mut [u8])
     requires { ⌜ Table (fieldOf q) n (halfOf q) (now table) ⌝ }
     ensures { λ _. ⌜ Table (fieldOf q) n (halfOf q) (now (table .exit)) ⌝ }
     ensures { λ _. ⌜ Multiples (fieldOf q) n (halfOf q) (λ j. entry (now (table .entry)) (n + j)) (now (table .exit)) ⌝ }
 {
     let half = field::symbol::half(q);
-    let mut a = 1;
+    if 2 < half {
+        double(q, n, 1, table);
+    }
+    let mut a = 2;
     while 2 * a < half {
         double(q, n, a, table);
         a += 1;

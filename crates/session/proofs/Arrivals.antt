@@ -10,12 +10,12 @@ use borrow.Author.Tests.{eq-eqb, ne-eqb, lt-leb, le-leb, lt-ltb, le-ltb, leb-fal
 use lib.Dec.{eqb, leb}
 use lib.ListN.{length, getD, take, drop, length-map, length-append}
 use lib.Seq.{length-take-le, take-at}
-use Rattle.field.specs.Curve.{isCurve, IsCurve, curveOf}
+use Rattle.field.specs.Curve.{isShort, IsShort, curveOf}
 use Rattle.field.specs.declared.curve.Curve.{Curve}
 use Rattle.field.specs.Outcomes.{number, refuse}
 use Rattle.field.specs.declared.outcome.Outcome.{Outcome}
 use Rattle.field.specs.declared.outcome.Outcome.the-variants.{Done, BadCurve, BadPlace, BadSymbol}
-use Rattle.field.proofs.Curves.{curve-true, curve-of-true, sizes}
+use Rattle.field.proofs.Curves.{short-true, short-of-true, short-sizes}
 use Rattle.field.proofs.Outcomes.{passed, Follows, row-refused, row-passed}
 use Rattle.poly.proofs.Bools.{true-or-false}
 use Rattle.code.specs.Terms.{size}
@@ -35,11 +35,11 @@ use Rattle.session.specs.inner.WordRead.{wordRead}
 
 -- ---- opening
 
-pub opened-outcome : (q m : ℕ) → opened q m .outcome ≡ orderChecks q m Done
+pub opened-outcome : (q m : ℕ) → opened q m .outcome ≡ orderChecks (isShort q) q m Done
 unfolding opened
 opened-outcome q m = refl
 
-module _ (q m : ℕ) (o : Outcome) (is : o ≡ orderChecks q m Done) where
+module _ (q m : ℕ) (o : Outcome) (is : o ≡ orderChecks (isShort q) q m Done) where
   pub opened-done : o ≡ Done → opened q m ≡ reply (emptySession q m) o
   unfolding opened
   opened-done e = rw (← is, e)
@@ -83,35 +83,35 @@ module _ (s : Session) where
   abbrev n : ℕ
   n = s .q * s .q * s .q
 
-  pub read-none : isCurve (s .q) ≡ false → wordRead s ≡ record { points = 0; symbols = 0; places = s .places }
+  pub read-none : isShort (s .q) ≡ false → wordRead s ≡ record { points = 0; symbols = 0; places = s .places }
   read-none e = rw e
 
-  read-curve : IsCurve (s .q)
+  read-block : IsShort (s .q)
       → wordRead s ≡ record { points = n; symbols = s .q * s .q; places = receivedWord s ++ drop n (s .places) }
-  read-curve c = rw (curve-true (s .q) c)
+  read-block c = rw (short-true (s .q) c)
 
   -- the first n places were lent, and came back without conflicts
-  pub read-cleared : (v : Curve) → IsCurve (s .q) → v ≡ curveOf (s .q) → (back : List ℕ) → back ≡ map conflictAsMissing (take (v .points) (s .places))
+  pub read-cleared : (v : Curve) → IsShort (s .q) → v ≡ curveOf (s .q) → (back : List ℕ) → back ≡ map conflictAsMissing (take (v .points) (s .places))
       → record { points = v .points; symbols = v .symbols; places = back ++ drop (v .points) (s .places) } ≡ wordRead s
-  read-cleared v c f back is = rw (is, f) (sym (read-curve c))
+  read-cleared v c f back is = rw (is, f) (sym (read-block c))
 
 module _ (s : Session) (long : length (s .places) ≡ 64) where
-  room : IsCurve (s .q) → n s ≤ length (s .places)
-  room c = omega (arith, sizes (s .q) c .points, long)
+  room : IsShort (s .q) → n s ≤ length (s .places)
+  room c = omega (arith, short-sizes (s .q) c .points, long)
 
-  length-word : IsCurve (s .q) → length (receivedWord s) ≡ n s
+  length-word : IsShort (s .q) → length (receivedWord s) ≡ n s
   length-word c = length-map (take (n s) (s .places)) conflictAsMissing ∙ length-take-le (n s) (s .places) (room c)
 
   module _ (w : ReceivedWord) (is : w ≡ wordRead s) where
-    -- of a curve's session
+    -- of a session of short blocks
     pub record Read : Type 0 where
       pub is-n : w .points ≡ n s
       pub is-Q : w .symbols ≡ s .q * s .q
       pub word : take (w .points) (w .places) ≡ receivedWord s
 
-    pub reads : IsCurve (s .q) → Read
+    pub reads : IsShort (s .q) → Read
     reads c =
-        let e = is ∙ read-curve s c in
+        let e = is ∙ read-block s c in
         record {
           is-n = ap (λ (v : ReceivedWord). v .points) e;
           is-Q = ap (λ (v : ReceivedWord). v .symbols) e;
@@ -119,9 +119,9 @@ module _ (s : Session) (long : length (s .places) ≡ 64) where
         }
 
     pub read-room : w .points ≤ length (w .places)
-    read-room = elim (true-or-false (isCurve (s .q))) [
-      | inl t ↦ let c = curve-of-true (s .q) t in
-          rw (is ∙ read-curve s c) (omega (arith, length-append (receivedWord s) (drop (n s) (s .places)), length-word c))
+    read-room = elim (true-or-false (isShort (s .q))) [
+      | inl t ↦ let c = short-of-true (s .q) t in
+          rw (is ∙ read-block s c) (omega (arith, length-append (receivedWord s) (drop (n s) (s .places)), length-word c))
       | inr t ↦ rw (is ∙ read-none s t) (omega arith)
     ]
 
@@ -141,14 +141,14 @@ module _ (s : Session) (place symbol : ℕ) where
   abbrev past-two : Outcome
   past-two = values (last (s .q * s .q * s .q) (s .q * s .q))
 
-  pub checks-order : (o : Outcome) → o ≡ orderChecks (s .q) (s .m) Done → Refused o
+  pub checks-order : (o : Outcome) → o ≡ orderChecks (isShort (s .q)) (s .q) (s .m) Done → Refused o
       → o ≡ arrivalChecks s place symbol
   unfolding arrivalChecks
-  checks-order o e r = order-refused (s .q) (s .m) o e r past-two
+  checks-order o e r = order-refused (isShort (s .q)) (s .q) (s .m) o e r past-two
 
   -- past 1 and 2: n and Q are the curve's, and o is what 4 came to
   pub record ValuesChecked (n Q : ℕ) (o : Outcome) : Type 0 where
-    pub is-curve : IsCurve (s .q)
+    pub is-block : IsShort (s .q)
     pub is-n : n ≡ s .q * s .q * s .q
     pub is-Q : Q ≡ s .q * s .q
     pub order : s .m < n
@@ -158,7 +158,7 @@ module _ (s : Session) (place symbol : ℕ) where
     past-order : arrivalChecks s place symbol ≡ values (last n Q)
     unfolding arrivalChecks
     past-order =
-        order-passed (s .q) (s .m) past-two (h .is-curve) (omega (arith, h .order, h .is-n))
+        order-passed (isShort (s .q)) (s .q) (s .m) past-two (short-true (s .q) (h .is-block)) (omega (arith, h .order, h .is-n))
         ∙ ap₂ (λ (a b : ℕ). values (last a b)) (sym (h .is-n)) (sym (h .is-Q))
 
     pub checks-value : Refused o → o ≡ arrivalChecks s place symbol
@@ -178,15 +178,15 @@ module _ (s : Session) (place symbol : ℕ) where
       checks-done b l = past-values ∙ rw (lt-leb n place b, lt-leb Q symbol l)
 
   -- an arrival past its checks has a place of the curve
-  pub checked-place : arrivalChecks s place symbol ≡ Done → IsCurve (s .q) × (place < s .q * s .q * s .q)
+  pub checked-place : arrivalChecks s place symbol ≡ Done → IsShort (s .q) × (place < s .q * s .q * s .q)
   unfolding arrivalChecks
   checked-place e =
       let n = s .q * s .q * s .q in
       let Q = s .q * s .q in
-      let a = order-rest (s .q) (s .m) past-two e in
+      let a = order-rest (isShort (s .q)) (s .q) (s .m) past-two e in
       let b = value-rest true Q (receivedWord s) (last n Q) (a .2) in
       let d = passed (leb n place) (refuse (leb Q symbol) BadSymbol Done) BadPlace (λ p. omega (arith, ap number p)) (b .1) in
-      (a .0, leb-false n place (d .0))
+      (short-of-true (s .q) (a .0), leb-false n place (d .0))
 
   -- ---- an arrival
 
@@ -215,17 +215,17 @@ arrived-as-it-came s place symbol round e =
 -- ---- asking
 
 module _ (s : Session) (slice : List ℕ) where
-  refused-curve : isCurve (s .q) ≡ false → (v : List ℕ) → recovered (s .q) (s .m) v slice ≡ answered BadCurve slice
+  refused-curve : isShort (s .q) ≡ false → (v : List ℕ) → recovered (s .q) (s .m) v slice ≡ answered BadCurve slice
   refused-curve e v =
       recovered-refused (s .q) (s .m) v slice BadCurve
-      (order-curve (s .q) (s .m) (sliceChecks true (s .q * s .q) (s .q * s .q * s .q) v (size (s .q) (s .m)) (length slice) Done) e) refl
+      (order-curve (isShort (s .q)) (s .q) (s .m) (sliceChecks true (s .q * s .q) (s .q * s .q * s .q) v (size (s .q) (s .m)) (length slice) Done) e) refl
 
-  -- recovery from the word that is read; where q names no curve, whatever that is
+  -- recovery from the word that is read; where q names no curve of short blocks, whatever that is
   pub asked-recovered : length (s .places) ≡ 64 → (w : ReceivedWord) → w ≡ wordRead s
       → asked s slice ≡ recovered (s .q) (s .m) (take (w .points) (w .places)) slice
   unfolding asked
-  asked-recovered long w is = elim (true-or-false (isCurve (s .q))) [
+  asked-recovered long w is = elim (true-or-false (isShort (s .q))) [
     | inl t ↦
-        ap (λ (v : List ℕ). recovered (s .q) (s .m) v slice) (sym (reads s long w is (curve-of-true (s .q) t) .word))
+        ap (λ (v : List ℕ). recovered (s .q) (s .m) v slice) (sym (reads s long w is (short-of-true (s .q) t) .word))
     | inr t ↦ refused-curve t (receivedWord s) ∙ sym (refused-curve t (take (w .points) (w .places)))
   ]

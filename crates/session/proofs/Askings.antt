@@ -4,11 +4,11 @@ use mathlib.Core.Bool.{true}
 use mathlib.Core.List.{List, map}
 use mathlib.Core.Path.{_≡_, refl, _∙_}
 use Prim.Native.Nat.{ℕ, _*_, _<_}
-use native.Mathlib.Omega.{arith}
 use lib.ListN.{length, length-map}
-use Rattle.field.specs.Curve.{IsCurve}
+use Rattle.field.specs.Curve.{isShort, IsShort}
 use Rattle.field.specs.declared.outcome.Outcome.{Outcome}
 use Rattle.field.specs.declared.outcome.Outcome.the-variants.{Done, BadRoom}
+use Rattle.field.proofs.Curves.{short-true}
 use Rattle.code.specs.Terms.{size}
 use Rattle.code.specs.Checks.{valueCheck, sliceChecks}
 use Rattle.code.specs.Answers.{answered}
@@ -20,14 +20,14 @@ use Rattle.session.specs.Asked.{asked}
 use Rattle.session.specs.ReferenceModel.{Model}
 use Rattle.session.proofs.Steps.{receivedValue, values-pass, Represents, received-word}
 
-module _ (q m : ℕ) (curve : IsCurve q) (order : m < q * q * q)
+module _ (q m : ℕ) (block : IsShort q) (order : m < q * q * q)
     (places rounds : List ℕ) (model : Model) (h : Represents q places rounds model) (slice : List ℕ) where
   abbrev now : Session
   now = record { q = q; m = m; places = places; rounds = rounds }
 
   is-recovered : asked now slice ≡ recovered q m (map receivedValue model) slice
   unfolding asked
-  is-recovered = rw (received-word q curve places rounds model h)
+  is-recovered = rw (received-word q block places rounds model h)
 
   long : length (map receivedValue model) ≡ q * q * q
   long = length-map model receivedValue ∙ h .len
@@ -40,7 +40,7 @@ module _ (q m : ℕ) (curve : IsCurve q) (order : m < q * q * q)
   slices = sliceChecks true (q * q) (q * q * q) (map receivedValue model) (size q m) (length slice) Done
 
   checks : recoverChecks q m (map receivedValue model) slice ≡ slices
-  checks = order-passed q m slices curve order
+  checks = order-passed (isShort q) q m slices (short-true q block) order
 
   pub asks-answer : length slice ≡ size q m → asked now slice ≡ answerOf (readingOf q m (map receivedValue model)) slice
   asks-answer e =

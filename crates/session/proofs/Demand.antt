@@ -7,9 +7,10 @@ use Prim.Native.Nat.{ℕ, _*_, _<_}
 use native.Mathlib.Decide.{ℕ-discrete}
 use native.Mathlib.Omega.{arith}
 use lib.ListN.{length}
-use Rattle.field.specs.Curve.{IsCurve}
+use Rattle.field.specs.Curve.{IsCurve, IsShort}
 use Rattle.field.specs.Outcomes.{Says}
 use Rattle.field.specs.declared.outcome.Outcome.the-variants.{Done, BadRoom, NoMessage, Several}
+use Rattle.field.proofs.Curves.{short-curve}
 use Rattle.field.proofs.Outcomes.{says}
 use Rattle.code.specs.Terms.{size}
 use Rattle.code.specs.Answers.{answered}
@@ -23,18 +24,18 @@ use Rattle.session.specs.ReferenceModel.{Model, emptyModel, afterArrival
 use Rattle.session.specs.Claim.{Event, Arrival, Asking, modelFrom, modelAfter, sessionFrom, sessionAfter, Claim}
 use Rattle.session.specs.Replayed.{arrivals, replayed}
 use Rattle.session.proofs.Replays.{replayed-asked}
-use Rattle.session.proofs.Steps.{receivedValue, Match, opened-curve, match-opened, step}
+use Rattle.session.proofs.Steps.{receivedValue, Match, opened-block, match-opened, step}
 use Rattle.session.proofs.ModelReadings.{none-fits, one-fits, several-fit, never-two}
 use Rattle.session.proofs.Askings.{asks-answer, asks-room}
 
 -- after every list of events the session matches the model
-match-from : (q m : ℕ) → IsCurve q → m < q * q * q → (session : Session) (model : Model) → Match q m session model → (events : List Event)
+match-from : (q m : ℕ) → IsShort q → m < q * q * q → (session : Session) (model : Model) → Match q m session model → (events : List Event)
     → Match q m (sessionFrom session events) (modelFrom q model events)
 unfolding sessionFrom modelFrom
-match-from q m curve order session model h [] = h
-match-from q m curve order session model h (Arrival p s r ∷ rest) =
-    match-from q m curve order (arrived session p s r .session) (afterArrival q model p s r) (step q m curve order session model h p s r .next) rest
-match-from q m curve order session model h (Asking slice ∷ rest) = match-from q m curve order session model h rest
+match-from q m block order session model h [] = h
+match-from q m block order session model h (Arrival p s r ∷ rest) =
+    match-from q m block order (arrived session p s r .session) (afterArrival q model p s r) (step q m block order session model h p s r .next) rest
+match-from q m block order session model h (Asking slice ∷ rest) = match-from q m block order session model h rest
 
 both : {A B C : Type 0} → A ↔ B → B ↔ C → A ↔ C
 both f g = (λ a. g .0 (f .0 a), λ c. f .1 (g .1 c))
@@ -43,14 +44,17 @@ module _ (q m : ℕ) (accepted : Says (opened q m .outcome) 0 0) where
   done : opened q m .outcome ≡ Done
   done = says (opened q m .outcome) Done .0 accepted
 
+  block : IsShort q
+  block = opened-block q m done .0
+
   curve : IsCurve q
-  curve = opened-curve q m done .0
+  curve = short-curve q block
 
   order : m < q * q * q
-  order = opened-curve q m done .1
+  order = opened-block q m done .1
 
   pub match-after : (events : List Event) → Match q m (sessionAfter q m events) (modelAfter q events)
-  match-after events = match-from q m curve order (opened q m .session) (emptyModel q) (match-opened q m done) events
+  match-after events = match-from q m block order (opened q m .session) (emptyModel q) (match-opened q m done) events
 
   module _ (events : List Event) where
     abbrev model : Model
@@ -60,10 +64,10 @@ module _ (q m : ℕ) (accepted : Says (opened q m .outcome) 0 0) where
     found = readingOf q m (map receivedValue model)
 
     asks : (slice : List ℕ) → length slice ≡ size q m → asked (sessionAfter q m events) slice ≡ answerOf found slice
-    asks slice e = let h = match-after events in rw (h .is) (asks-answer q m curve order (h .places) (h .rounds) model (h .represents) slice e)
+    asks slice e = let h = match-after events in rw (h .is) (asks-answer q m block order (h .places) (h .rounds) model (h .represents) slice e)
 
     short : (slice : List ℕ) → (length slice ≡ size q m → ⊥) → asked (sessionAfter q m events) slice ≡ answered BadRoom slice
-    short slice n = let h = match-after events in rw (h .is) (asks-room q m curve order (h .places) (h .rounds) model (h .represents) slice n)
+    short slice n = let h = match-after events in rw (h .is) (asks-room q m block order (h .places) (h .rounds) model (h .represents) slice n)
 
     claim : Claim q m events
     claim =
@@ -71,7 +75,7 @@ module _ (q m : ℕ) (accepted : Says (opened q m .outcome) 0 0) where
         record {
           arrival = λ before rest p s r e.
               both (says (arrived (sessionAfter q m before) p s r .outcome) Done)
-              (step q m curve order (sessionAfter q m before) (modelAfter q before) (match-after before) p s r .answered);
+              (step q m block order (sessionAfter q m before) (modelAfter q before) (match-after before) p s r .answered);
           gives = λ slice e v.
               let w = both (answer-message found slice v) (one-fits q m curve model (h .len) (h .small) v) in
               let is = says (answerOf found slice .outcome) Done in

@@ -7,10 +7,10 @@ use mathlib.Core.Path.{_≡_, refl, sym, ap, _∙_}
 use Prim.Native.Nat.{ℕ, _*_}
 use lib.Dec.{eqb}
 use lib.ListN.{length, take}
-use Rattle.field.specs.Curve.{isCurve}
+use Rattle.field.specs.Curve.{isShort}
 use Rattle.field.specs.Outcomes.{number, Says}
 use Rattle.field.specs.declared.outcome.Outcome.the-variants.{Done, BadCurve}
-use Rattle.field.proofs.Curves.{curve-of-true}
+use Rattle.field.proofs.Curves.{short-of-true}
 use Rattle.poly.proofs.Bools.{true-or-false}
 use Rattle.code.specs.Terms.{size}
 use Rattle.code.specs.Checks.{sliceChecks}
@@ -29,17 +29,17 @@ use Rattle.session.specs.inner.WordRead.{wordRead}
 use Rattle.session.proofs.Arrivals.{reads}
 
 module _ (s : Session) where
-  -- where q names no curve, the word makes no difference
-  refused-curve : isCurve (s .q) ≡ false → (v : List ℕ) → openChecks (s .q) (s .m) v ≡ BadCurve
+  -- where q names no curve of short blocks, the word makes no difference
+  refused-curve : isShort (s .q) ≡ false → (v : List ℕ) → openChecks (s .q) (s .m) v ≡ BadCurve
   refused-curve e v =
-      order-curve (s .q) (s .m)
+      order-curve (isShort (s .q)) (s .q) (s .m)
       (sliceChecks true (s .q * s .q) (s .q * s .q * s .q) v (size (s .q) (s .m)) (size (s .q) (s .m)) Done) e
 
   -- a job of the word that is read
   pub job-opened : length (s .places) ≡ 64 → (w : ReceivedWord) → w ≡ wordRead s → jobOpened s ≡ opened (s .q) (s .m) (take (w .points) (w .places))
   unfolding jobOpened
-  job-opened long w is = elim (true-or-false (isCurve (s .q))) [
-    | inl t ↦ ap (opened (s .q) (s .m)) (sym (reads s long w is (curve-of-true (s .q) t) .word))
+  job-opened long w is = elim (true-or-false (isShort (s .q))) [
+    | inl t ↦ ap (opened (s .q) (s .m)) (sym (reads s long w is (short-of-true (s .q) t) .word))
     | inr t ↦
         let v = take (w .points) (w .places) in
         opened-alike (s .q) (s .m) (receivedWord s) v BadCurve (refused-curve t (receivedWord s)) (refused-curve t v) refl

@@ -12,11 +12,11 @@ use borrow.Author.Tests.{lt-ltb, le-ltb, ne-eqb}
 use lib.Dec.{T, eqb, ltb}
 use lib.ListN.{length, getD, take, drop, set, replicate, length-map, length-set, length-replicate}
 use lib.Seq.{getD-take, take-set-lt, drop-set-lt, getD-set-same, getD-set-other}
-use Rattle.field.specs.Curve.{IsCurve}
+use Rattle.field.specs.Curve.{isShort, IsShort}
 use Rattle.field.specs.Outcomes.{number}
 use Rattle.field.specs.declared.outcome.Outcome.{Outcome}
 use Rattle.field.specs.declared.outcome.Outcome.the-variants.{Done, BadPlace, BadSymbol}
-use Rattle.field.proofs.Curves.{sizes}
+use Rattle.field.proofs.Curves.{short-sizes, short-of-true}
 use Rattle.poly.proofs.Lists.{getD-map, map-set}
 use Rattle.code.specs.Checks.{orderChecks, badValue, firstBad, valueCheck}
 use Rattle.code.proofs.Checks.{order-done, good-symbol, good-gap, value-good}
@@ -167,10 +167,10 @@ pub record Represents (q : ℕ) (places rounds : List ℕ) (model : Model) : Typ
   pub small : Small (q * q) model
 
 -- the word that the checks and recovery read
-pub received-word : (q : ℕ) → IsCurve q → (places rounds : List ℕ) (model : Model) → Represents q places rounds model
+pub received-word : (q : ℕ) → IsShort q → (places rounds : List ℕ) (model : Model) → Represents q places rounds model
     → map conflictAsMissing (take (q * q * q) places) ≡ map receivedValue model
-received-word q curve places rounds model h =
-    ap (map conflictAsMissing) (h .places-are .same) ∙ received-model (q * q) (omega (arith, sizes q curve .symbols)) model (h .small)
+received-word q block places rounds model h =
+    ap (map conflictAsMissing) (h .places-are .same) ∙ received-model (q * q) (omega (arith, short-sizes q block .symbols)) model (h .small)
 
 -- the session has the opening's q and m, and stores what the model holds
 pub record Match (q m : ℕ) (session : Session) (model : Model) : Type 0 where
@@ -180,8 +180,8 @@ pub record Match (q m : ℕ) (session : Session) (model : Model) : Type 0 where
   pub represents : Represents q places rounds model
 
 -- what an accepted opening says of its arguments
-pub opened-curve : (q m : ℕ) → opened q m .outcome ≡ Done → IsCurve q × (m < q * q * q)
-opened-curve q m e = order-done q m (sym (opened-outcome q m) ∙ e)
+pub opened-block : (q m : ℕ) → opened q m .outcome ≡ Done → IsShort q × (m < q * q * q)
+opened-block q m e = let w = order-done (isShort q) q m (sym (opened-outcome q m) ∙ e) in (short-of-true q (w .0), w .1)
 
 -- the session of an accepted opening matches the empty model
 pub match-opened : (q m : ℕ) → opened q m .outcome ≡ Done → Match q m (opened q m .session) (emptyModel q)
@@ -189,10 +189,10 @@ match-opened q m e =
     record {
       places = replicate 64 255;
       rounds = replicate 64 0;
-      is = ap (λ (t : Reply). t .session) (opened-done q m (orderChecks q m Done) refl (sym (opened-outcome q m) ∙ e));
+      is = ap (λ (t : Reply). t .session) (opened-done q m (orderChecks (isShort q) q m Done) refl (sym (opened-outcome q m) ∙ e));
       represents = record {
-        places-are = copies-empty (q * q * q) storedValue (sizes q (opened-curve q m e .0) .points);
-        rounds-are = copies-empty (q * q * q) storedRound (sizes q (opened-curve q m e .0) .points);
+        places-are = copies-empty (q * q * q) storedValue (short-sizes q (opened-block q m e .0) .points);
+        rounds-are = copies-empty (q * q * q) storedRound (short-sizes q (opened-block q m e .0) .points);
         len = length-replicate (q * q * q) missing;
         small = λ p s r h. absurd (empty-no-symbol (q * q * q) p s r h);
       };
@@ -218,7 +218,7 @@ module _ (q : ℕ) (model : Model) (p s r : ℕ) where
   unfolding afterArrival
   after-in-range e = rw e
 
-module _ (q m : ℕ) (curve : IsCurve q) (order : m < q * q * q)
+module _ (q m : ℕ) (block : IsShort q) (order : m < q * q * q)
     (places rounds : List ℕ) (model : Model) (h : Represents q places rounds model) (p s r : ℕ) where
   abbrev now : Session
   now = record { q = q; m = m; places = places; rounds = rounds }
@@ -230,11 +230,11 @@ module _ (q m : ℕ) (curve : IsCurve q) (order : m < q * q * q)
   checked : ValuesChecked now p s (q * q * q) (q * q) Done
   checked =
       record {
-        is-curve = curve;
+        is-block = block;
         is-n = refl;
         is-Q = refl;
         order = order;
-        is-o = rw (received-word q curve places rounds model h) (values-pass (q * q) model (h .small));
+        is-o = rw (received-word q block places rounds model h) (values-pass (q * q) model (h .small));
       }
 
   -- by the reply and the model after it
@@ -254,7 +254,7 @@ module _ (q m : ℕ) (curve : IsCurve q) (order : m < q * q * q)
       let then : Place = updated o s r in
       let here : p < length model = omega (arith, h .len) in
       let w : inRange q p s ≡ true = rw (lt-ltb p (q * q * q) l, lt-ltb s (q * q) k) in
-      let apart : q * q ≤ 254 = omega (arith, sizes q curve .symbols) in
+      let apart : q * q ≤ 254 = omega (arith, short-sizes q block .symbols) in
       let merges : merged (getD places p 0) (getD rounds p 0) s r ≡ stored (storedValue then) (storedRound then)
       = ap₂ (λ (x u : ℕ). merged x u s r) (copies-at (q * q * q) storedValue places model (h .places-are) p l here)
       (copies-at (q * q * q) storedRound rounds model (h .rounds-are) p l here)
@@ -287,6 +287,6 @@ module _ (q m : ℕ) (curve : IsCurve q) (order : m < q * q * q)
           refused-step BadPlace (checks-place now p s _ _ _ checked refl (omega arith)) refl (λ e. omega (arith, ap number e))
           (rw (le-ltb p (q * q * q) (omega arith)))
 
-pub step : (q m : ℕ) → IsCurve q → m < q * q * q → (session : Session) (model : Model) → Match q m session model → (p s r : ℕ)
+pub step : (q m : ℕ) → IsShort q → m < q * q * q → (session : Session) (model : Model) → Match q m session model → (p s r : ℕ)
     → Step q m session model p s r
-step q m curve order session model h p s r = rw (h .is) (now-step q m curve order (h .places) (h .rounds) model (h .represents) p s r)
+step q m block order session model h p s r = rw (h .is) (now-step q m block order (h .places) (h .rounds) model (h .represents) p s r)

@@ -4,6 +4,7 @@ use mathlib.Core.List.{List, map}
 use Prim.Native.Nat.{ℕ, _*_}
 use lib.Dec.{eqb, leb, ltb}
 use lib.ListN.{getD, take, set}
+use Rattle.field.specs.Curve.{isShort}
 use Rattle.field.specs.Outcomes.{number, refuse}
 use Rattle.field.specs.declared.outcome.Outcome.{Outcome}
 use Rattle.field.specs.declared.outcome.Outcome.the-variants.{Done, BadPlace, BadSymbol}
@@ -48,7 +49,7 @@ merged old oldRound symbol round =
 -- occurs".
 unfoldable pub arrivalChecks : Session → ℕ → ℕ → Outcome
 arrivalChecks s place symbol =
-    orderChecks (s .q) (s .m)
+    orderChecks (isShort (s .q)) (s .q) (s .m)
     (valueCheck true (s .q * s .q) (receivedWord s)
     (refuse (leb (s .q * s .q * s .q) place) BadPlace
     (refuse (leb (s .q * s .q) symbol) BadSymbol

@@ -3,6 +3,7 @@ use mathlib.Core.Bool.{cond}
 use Prim.Native.Nat.{ℕ}
 use lib.Dec.{eqb}
 use lib.ListN.{replicate}
+use Rattle.field.specs.Curve.{isShort}
 use Rattle.field.specs.Outcomes.{number}
 use Rattle.field.specs.declared.outcome.Outcome.the-variants.{Done}
 use Rattle.code.specs.Checks.{orderChecks}
@@ -16,5 +17,5 @@ emptySession q m = record { q = q; m = m; places = replicate 64 255; rounds = re
 -- 1, 2. "A refused opening hands back q = 2, m = 0, all places 255."
 unfoldable pub opened : ℕ → ℕ → Reply
 opened q m =
-    let outcome = orderChecks q m Done in
+    let outcome = orderChecks (isShort q) q m Done in
     record { session = cond (eqb (number outcome) 0) (emptySession q m) (emptySession 2 0); outcome = outcome }

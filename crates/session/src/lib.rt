@@ -11,7 +11,6 @@ ghost use Rattle.session.specs.inner.WordRead.{wordRead};
 ghost use Rattle.job.specs.Task.{taskOf};
 ghost use Rattle.job.specs.Sound.{Sound};
 use field::Curve;
-use field::Named;
 use field::Outcome;
 use job::Opening;
 
@@ -45,7 +44,7 @@ fn empty_session(q: u8, m: u16) -> Session
 pub fn open(q: u8, m: u16) -> Reply
     ensures { λ r. ⌜ r ≡ opened q m ⌝ }
 {
-    let outcome = code::check::order(q, m as usize);
+    let outcome = code::check::order(field::curve::is_short(q), q, m as usize);
     if let Outcome::Done = outcome {
         let session = empty_session(q, m);
         Reply { session, outcome }
@@ -114,18 +113,19 @@ struct ReceivedWord {
 }
 
 impl Session {
-    // Where q names no curve, n is 0.
+    // Where q names no curve of short blocks, n is 0.
     fn received_word(self) -> ReceivedWord
         ensures { λ r. ⌜ r ≡ wordRead self ⌝ }
     {
         let mut places = self.places;
-        let Named::Is(curve) = Curve::of(self.q) else {
+        if !field::curve::is_short(self.q) {
             return ReceivedWord {
                 points: 0,
                 symbols: 0,
                 places,
             };
-        };
+        }
+        let curve = Curve::at(self.q);
         let points = curve.points;
         clear_conflicts(&mut places[..points]);
         ReceivedWord {
@@ -139,7 +139,7 @@ impl Session {
     fn check(self, place: u16, symbol: u8) -> Outcome
         ensures { λ r. ⌜ r ≡ arrivalChecks self place symbol ⌝ }
     {
-        let first = code::check::order(self.q, self.m as usize);
+        let first = code::check::order(field::curve::is_short(self.q), self.q, self.m as usize);
         let Outcome::Done = first else {
             return first;
         };

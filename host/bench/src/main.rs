@@ -2,13 +2,16 @@
 //! one run on the same inputs at q = 4, m = 37. Checks first that both give
 //! the same answers.
 //!
-//! With `blocks` as argument it compares programs instead, with `turns` recovery
-//! in turns with recovery in one go; with an operation's name and a number of
-//! calls it runs the library alone, for a profiler.
+//! With `long` as argument it does the same for long blocks at q = 8, m = 300. With
+//! `blocks` it compares programs instead, with `turns` recovery in turns with
+//! recovery in one go; with an operation's name and a number of calls it runs the
+//! library alone, for a profiler.
 
 mod baseline;
 mod blocks;
 mod blocks_baseline;
+mod long;
+mod long_baseline;
 mod profile;
 mod timing;
 mod turns;
@@ -42,12 +45,14 @@ type LibraryCall = fn(u8, u16, &[u8], &mut [u8]) -> Result<(), Refusal>;
 const BASELINE_MODE: &str = "blocks-baseline";
 const USAGE: &str = "arguments, one of these:
   none                times of the library's operations and of the baseline's
+  long                the same for long blocks
   blocks [PROGRAM]    speed of the program `blocks` and of the baseline's
   turns               times of recovery in turns, by jobs, and of recovery in one go
   blocks-baseline     the baseline's `blocks`, from standard input to standard output
   OPERATION CALLS     the library alone, for a profiler;
                       the operation is encode, unencode, recover-COUNT, where COUNT symbols are missing,
-                      or mend-COUNT, where COUNT symbols are wrong";
+                      or mend-COUNT, where COUNT symbols are wrong, of short blocks;
+                      long-encode, long-unencode or long-recover-COUNT of long ones";
 
 fn main() -> ExitCode {
     let arguments: Vec<String> = std::env::args().skip(1).collect();
@@ -67,6 +72,10 @@ fn run(arguments: &[&str]) -> Result<(), String> {
             print_table();
             Ok(())
         }
+        ["long"] => {
+            long::print_table();
+            Ok(())
+        }
         ["turns"] => {
             turns::print_table();
             Ok(())
@@ -84,8 +93,7 @@ fn print_table() {
     let baseline = Baseline::new();
     let messages = messages();
     let words: Vec<Word> = messages.iter().map(word_of).collect();
-    println!("| operation | library, ns | baseline, ns | baseline / library |");
-    println!("|---|---|---|---|");
+    print_heading();
     print_row("encode", &encoding_times(&baseline, &messages));
     print_row("unencode", &unencoding_times(&baseline, &words));
     for missing in MISSING_COUNTS {
@@ -97,6 +105,11 @@ fn print_table() {
         let name = format!("mend, {wrong} wrong");
         print_row(&name, &mending_times(&baseline, &words, wrong));
     }
+}
+
+fn print_heading() {
+    println!("| operation | library, ns | baseline, ns | baseline / library |");
+    println!("|---|---|---|---|");
 }
 
 fn print_row(name: &str, times: &Times) {

@@ -2,15 +2,24 @@
 
 use std::hint::black_box;
 
-use crate::{broken_words, messages, word_of, wrong_words, Word, K, M, N, Q, USAGE};
+use hermitian::WORK_LENGTH;
+
+use crate::{broken_words, long, messages, word_of, wrong_words, Word, K, M, N, Q, USAGE};
 
 pub fn run(operation: &str, calls: &str) -> Result<(), String> {
     let Ok(calls) = calls.parse::<usize>() else {
         return Err(USAGE.to_string());
     };
+    match operation.strip_prefix("long-") {
+        Some(operation) => run_long(operation, calls),
+        None => run_short(operation, calls),
+    }
+}
+
+fn run_short(operation: &str, calls: usize) -> Result<(), String> {
     let words: Vec<Word> = messages().iter().map(word_of).collect();
     let (mut message, mut word, mut marks) = ([0; K], [0; N], [0; N]);
-    match named(operation) {
+    match named(operation, N) {
         Some(("encode", None)) => repeat(calls, &messages(), |input| {
             hermitian::encode(Q, M, input, &mut word)
         }),
@@ -30,12 +39,33 @@ pub fn run(operation: &str, calls: &str) -> Result<(), String> {
     Ok(())
 }
 
+fn run_long(operation: &str, calls: usize) -> Result<(), String> {
+    let words = long::words();
+    let (mut message, mut word) = ([0; long::K], [0; long::N]);
+    let mut work = vec![0; WORK_LENGTH];
+    match named(operation, long::N) {
+        Some(("encode", None)) => repeat(calls, &long::messages(), |input| {
+            hermitian::encode(long::Q, long::M, input, &mut word)
+        }),
+        Some(("unencode", None)) => repeat(calls, &words, |input| {
+            hermitian::unencode(long::Q, long::M, input, &mut message)
+        }),
+        Some(("recover", Some(missing))) => {
+            repeat(calls, &long::broken_words(&words, missing), |input| {
+                hermitian::recover_long(long::M, input, &mut message, &mut work)
+            })
+        }
+        _ => return Err(USAGE.to_string()),
+    }
+    Ok(())
+}
+
 /// The name before the hyphen and the number after it, at most n.
-fn named(operation: &str) -> Option<(&str, Option<usize>)> {
+fn named(operation: &str, n: usize) -> Option<(&str, Option<usize>)> {
     let Some((name, count)) = operation.split_once('-') else {
         return Some((operation, None));
     };
-    let count = count.parse().ok().filter(|&count| count <= N)?;
+    let count = count.parse().ok().filter(|&count| count <= n)?;
     Some((name, Some(count)))
 }
 

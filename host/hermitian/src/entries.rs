@@ -1,7 +1,7 @@
 //! The C entries as `include/hermitian.h` declares them.
 
-/// The shape of all but [`hermitian_mend`]: q, m, the input and its length, the
-/// output and its length. The answer is the refusal number times 65536 plus the
+/// The shape of all but [`hermitian_recover_long`] and [`hermitian_mend`]: q, m, the
+/// input and its length, the output and its length. The answer is the refusal number times 65536 plus the
 /// second number.
 pub type Entry = unsafe extern "C" fn(u8, u16, *const u8, usize, *mut u8, usize) -> u32;
 
@@ -41,6 +41,19 @@ extern "C" {
         word_length: usize,
         message: *mut u8,
         message_length: usize,
+    ) -> u32;
+
+    /// # Safety
+    ///
+    /// As for [`hermitian_encode`].
+    pub fn hermitian_recover_long(
+        m: u16,
+        word: *const u8,
+        word_length: usize,
+        message: *mut u8,
+        message_length: usize,
+        work: *mut u8,
+        work_length: usize,
     ) -> u32;
 
     /// # Safety

@@ -8,11 +8,16 @@
 //! |---|---|---|---|
 //! | 2 | 8 | 0 to 3 | 0 to 7 |
 //! | 4 | 64 | 0 to 15 | 0 to 63 |
+//! | 8 | 512 | 0 to 63 | 0 to 511 |
 //!
 //! Orders are numbers of 16 bits, and those from n on, up to 65535, are refused.
 //! [`message_length`] gives k. The strap uses q = 4, m = 37, k = 32. Any m + 1
 //! symbols of a word are enough to recover its message; fewer may be. Up to t
 //! wrong symbols of a whole word are mended, 10 for the strap.
+//!
+//! The blocks of q = 8 are long ones. [`encode`] and [`unencode`] take all three
+//! curves, [`recover`] and [`mend`] short blocks only; [`recover_long`] takes long
+//! ones and is lent [`WORK_LENGTH`] bytes to work in.
 //!
 //! ```
 //! use hermitian::{encode, recover, unencode, Refusal, MISSING};
@@ -48,13 +53,16 @@
 //! differential tests hold them together.
 
 pub mod entries;
+mod long;
 mod mend;
 mod refusal;
 
+pub use long::{recover_long, WORK_LENGTH};
 pub use mend::{mend, mend_into, Mended};
 pub use refusal::Refusal;
 
-/// Stands for a missing symbol in the word given to [`recover`].
+/// Stands for a missing symbol in the word given to [`recover`] or
+/// [`recover_long`].
 pub const MISSING: u8 = 255;
 
 /// Writes the word of a message: k symbols in, n symbols out.
@@ -75,12 +83,12 @@ pub fn unencode(q: u8, m: u16, word: &[u8], message: &mut [u8]) -> Result<(), Re
     refusal::of_answer(call(entries::hermitian_unencode, q, m, word, message))
 }
 
-/// Writes the only message that fits a word in which [`MISSING`] stands at
-/// each missing place: n bytes in, k symbols out.
+/// Writes the only message that fits a word of a short block in which [`MISSING`]
+/// stands at each missing place: n bytes in, k symbols out.
 ///
 /// # Errors
 ///
-/// Refusals 1 to 5, 9 and 10. A refused call leaves `message` unchanged.
+/// Refusals 1 to 5, 9 and 10; q = 8 meets 1. A refused call leaves `message` unchanged.
 pub fn recover(q: u8, m: u16, word: &[u8], message: &mut [u8]) -> Result<(), Refusal> {
     refusal::of_answer(call(entries::hermitian_recover, q, m, word, message))
 }
@@ -90,6 +98,7 @@ pub fn word_length(q: u8) -> Option<usize> {
     match q {
         2 => Some(8),
         4 => Some(64),
+        8 => Some(512),
         _ => None,
     }
 }
@@ -139,6 +148,17 @@ mod tests {
         assert_eq!(message_length(2, 8), None);
         assert_eq!(message_length(4, 64), None);
         assert_eq!(message_length(3, 0), None);
+        for (m, k) in [(0, 1), (8, 2), (54, 28), (55, 28), (300, 273), (511, 484)] {
+            assert_eq!(message_length(8, m), Some(k));
+        }
+        assert_eq!(
+            [512, 767, u16::MAX].map(|m| message_length(8, m)),
+            [None; 3]
+        );
+        assert_eq!(
+            [2, 3, 4, 8].map(word_length),
+            [Some(8), None, Some(64), Some(512)]
+        );
         for m in [255, 256, 256 + 3, 65_280, u16::MAX] {
             assert_eq!([2, 4].map(|q| message_length(q, m)), [None, None]);
         }

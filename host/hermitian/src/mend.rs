@@ -53,7 +53,7 @@ impl Mended {
 ///
 /// # Errors
 ///
-/// Refusals 1 to 4, 11 and 12.
+/// Refusals 1 to 4, 11 and 12; q = 8 meets 1.
 pub fn mend(q: u8, m: u16, word: &[u8]) -> Result<Mended, Refusal> {
     // A q or m without lengths is refused before the lengths are looked at.
     let n = word_length(q).unwrap_or(0);

@@ -3,13 +3,13 @@
 use std::error::Error;
 use std::fmt;
 
-/// The refusals that the four entries can give. The library checks in the
-/// order of the numbers, only 12 comes right after 2, and the first that applies
-/// decides. Numbers 6 and 7 belong to receiving sessions, which have no C entry;
-/// 8 no longer occurs.
+/// The refusals that the five entries can give. The library checks in the
+/// order of the numbers, only 12 comes right after 2 and 14 right after 5, and the
+/// first that applies decides. Numbers 6 and 7 belong to receiving sessions and 13
+/// to the field's inverse, which have no C entry; 8 no longer occurs.
 #[derive(Clone, Copy, Debug, PartialEq, Eq, Hash)]
 pub enum Refusal {
-    /// 1: q is neither 2 nor 4.
+    /// 1: q is none of 2, 4 and 8; to recover and to mend: q is neither 2 nor 4.
     UnknownCurve,
     /// 2: m is n or more, up to 65535.
     OrderTooHigh,
@@ -27,6 +27,8 @@ pub enum Refusal {
     NoCodewordNear,
     /// 12: nothing is mended at this order, since n - m - 1 is less than g.
     OrderTooHighToMend,
+    /// 14: the work slice hasn't exactly [`crate::WORK_LENGTH`] bytes.
+    WrongWorkLength,
     /// No answer of the rules: what is linked isn't the library that this
     /// wrapper was written for.
     NotInTheRules { answer: u32 },
@@ -35,10 +37,13 @@ pub enum Refusal {
 impl fmt::Display for Refusal {
     fn fmt(&self, f: &mut fmt::Formatter<'_>) -> fmt::Result {
         match self {
-            Refusal::UnknownCurve => write!(f, "the curve number q must be 2 or 4"),
+            Refusal::UnknownCurve => write!(
+                f,
+                "the curve number q must be 2 or 4, or 8 to encode or unencode a long block"
+            ),
             Refusal::OrderTooHigh => write!(
                 f,
-                "the order m is too high: at most 7 for q = 2, at most 63 for q = 4"
+                "the order m is too high: at most 7 for q = 2, 63 for q = 4, 511 for q = 8"
             ),
             Refusal::WrongInputLength => {
                 write!(f, "the input is longer or shorter than this order asks for")
@@ -62,6 +67,11 @@ impl fmt::Display for Refusal {
             Refusal::OrderTooHighToMend => write!(
                 f,
                 "the order m is too high to mend: at most 6 for q = 2, at most 57 for q = 4"
+            ),
+            Refusal::WrongWorkLength => write!(
+                f,
+                "the work slice is longer or shorter than {} bytes",
+                crate::WORK_LENGTH
             ),
             Refusal::NotInTheRules { answer } => write!(
                 f,
@@ -87,6 +97,7 @@ pub(crate) fn of_answer(answer: u32) -> Result<(), Refusal> {
         10 => Refusal::SeveralMessagesFit { power: second },
         11 => Refusal::NoCodewordNear,
         12 => Refusal::OrderTooHighToMend,
+        14 => Refusal::WrongWorkLength,
         _ => Refusal::NotInTheRules { answer },
     };
     if refusal.answer() == answer {
@@ -109,6 +120,7 @@ impl Refusal {
             Refusal::SeveralMessagesFit { power } => (10, power),
             Refusal::NoCodewordNear => (11, 0),
             Refusal::OrderTooHighToMend => (12, 0),
+            Refusal::WrongWorkLength => (14, 0),
             Refusal::NotInTheRules { answer } => return answer,
         };
         number * 65536 + u32::from(second)
@@ -134,6 +146,7 @@ mod tests {
             (720_895, Refusal::SeveralMessagesFit { power: 65_535 }),
             (720_896, Refusal::NoCodewordNear),
             (786_432, Refusal::OrderTooHighToMend),
+            (917_504, Refusal::WrongWorkLength),
         ];
         for (answer, refusal) in rows {
             assert_eq!(of_answer(answer), Err(refusal));
@@ -143,8 +156,14 @@ mod tests {
 
     #[test]
     fn answers_outside_the_rules_are_not_taken_for_others() {
-        let with_second = [65_537, (2 << 16) + 293, (9 << 16) + 256, (11 << 16) + 1];
-        let no_refusal = [1, 6 << 16, 13 << 16, u32::MAX];
+        let with_second = [
+            65_537,
+            (2 << 16) + 293,
+            (9 << 16) + 256,
+            (11 << 16) + 1,
+            (14 << 16) + 1,
+        ];
+        let no_refusal = [1, 6 << 16, 13 << 16, 15 << 16, u32::MAX];
         for answer in [with_second.as_slice(), &no_refusal].concat() {
             let refusal = Refusal::NotInTheRules { answer };
             assert_eq!(of_answer(answer), Err(refusal));

@@ -55,9 +55,18 @@ mod tests {
         assert_eq!(invert(4, 2), accepted(9));
     }
 
+    /// z * z^5 = z^6 = z + 1, and z * (z^5 + 1) = 1.
+    #[test]
+    fn products_and_inverse_of_64_elements() {
+        assert_eq!(multiply(8, 2, 32), accepted(3));
+        assert_eq!(multiply(8, 2, 33), accepted(1));
+        assert_eq!(invert(8, 2), accepted(33));
+        assert_eq!(invert(8, 33), accepted(2));
+    }
+
     #[test]
     fn sums_are_bitwise_exclusive_or() {
-        for (q, size) in [(2, 4), (4, 16)] {
+        for (q, size) in [(2, 4), (4, 16), (8, 64)] {
             for a in 0..size {
                 for b in 0..size {
                     assert_eq!(add(q, a, b), accepted(a ^ b));
@@ -70,12 +79,13 @@ mod tests {
     fn the_inverse_of_0_is_refused() {
         assert_eq!(invert(2, 0), (Outcome::INVERSE_OF_ZERO, 0));
         assert_eq!(invert(4, 0), (Outcome::INVERSE_OF_ZERO, 0));
+        assert_eq!(invert(8, 0), (Outcome::INVERSE_OF_ZERO, 0));
         assert_eq!(invert(3, 0), (Outcome::UNKNOWN_CURVE, 0));
     }
 
     #[test]
     fn each_other_symbol_times_its_inverse_is_1() {
-        for (q, size) in [(2, 4), (4, 16)] {
+        for (q, size) in [(2, 4), (4, 16), (8, 64)] {
             for a in 1..size {
                 let (outcome, inverse) = invert(q, a);
                 assert_eq!(outcome, Outcome::ACCEPTED);
@@ -87,7 +97,7 @@ mod tests {
     #[test]
     fn unknown_curves_are_refused_before_operands() {
         let refused = (Outcome::UNKNOWN_CURVE, 0);
-        for q in (0..=255).filter(|q| ![2, 4].contains(q)) {
+        for q in (0..=255).filter(|q| ![2, 4, 8].contains(q)) {
             for a in [0, 1, 3, 255] {
                 assert_eq!(add(q, a, 1), refused);
                 assert_eq!(multiply(q, 1, a), refused);
@@ -98,7 +108,7 @@ mod tests {
 
     #[test]
     fn operands_too_high_are_refused_by_the_lowest_index() {
-        for (q, size) in [(2, 4), (4, 16)] {
+        for (q, size) in [(2, 4), (4, 16), (8, 64)] {
             for bad in size..=255 {
                 for other in 0..=255 {
                     let first = (Outcome::value_too_high(0), 0);

@@ -7,18 +7,32 @@ use crate::outcome::Outcome;
 /// The mark of a missing symbol in broken words and sessions.
 pub const MISSING: u8 = 255;
 
-/// Refusal 1.
+/// The bytes of the work slice that recovery of long blocks is lent.
+pub const WORK_LENGTH: usize = 262_144;
+
+/// Refusal 1 where long blocks are taken too.
 pub fn curve(q: u8) -> Result<Curve, Outcome> {
     Curve::named(q).ok_or(Outcome::UNKNOWN_CURVE)
 }
 
-/// Refusals 1 and 2.
-pub fn curve_and_order(q: u8, m: u16) -> Result<Curve, Outcome> {
-    let curve = curve(q)?;
+/// Refusal 1 where only short blocks are taken.
+pub fn short_curve(q: u8) -> Result<Curve, Outcome> {
+    Curve::short_named(q).ok_or(Outcome::UNKNOWN_CURVE)
+}
+
+/// Refusals 1 and 2 where only short blocks are taken.
+pub fn short_curve_and_order(q: u8, m: u16) -> Result<Curve, Outcome> {
+    let curve = short_curve(q)?;
+    order(curve, m)?;
+    Ok(curve)
+}
+
+/// Refusal 2.
+pub fn order(curve: Curve, m: u16) -> Result<(), Outcome> {
     if usize::from(m) >= curve.point_count() {
         return Err(Outcome::ORDER_TOO_HIGH);
     }
-    Ok(curve)
+    Ok(())
 }
 
 /// Refusal 12, or else t.
@@ -60,20 +74,28 @@ pub fn output_length(output: &[u8], expected: usize) -> Result<(), Outcome> {
     Ok(())
 }
 
+/// Refusal 14.
+pub fn work_length(work: &[u8]) -> Result<(), Outcome> {
+    if work.len() != WORK_LENGTH {
+        return Err(Outcome::WRONG_WORK_LENGTH);
+    }
+    Ok(())
+}
+
 #[cfg(test)]
 mod tests {
     use super::*;
 
     #[test]
     fn orders_up_to_n_minus_1_are_accepted() {
-        for curve in Curve::BOTH {
+        for (curve, n) in Curve::ALL.into_iter().zip([8, 64, 512]) {
             for m in 0..=u16::MAX {
-                let expected = if usize::from(m) < curve.point_count() {
-                    Ok(curve)
+                let expected = if m < n {
+                    Ok(())
                 } else {
                     Err(Outcome::ORDER_TOO_HIGH)
                 };
-                assert_eq!(curve_and_order(curve.q(), m), expected);
+                assert_eq!(order(curve, m), expected);
             }
         }
     }
@@ -82,8 +104,20 @@ mod tests {
     fn an_unknown_curve_is_refused_before_the_order() {
         for q in (0..=255).filter(|q| ![2, 4].contains(q)) {
             for m in [0, 255, 256, 256 + 37, u16::MAX] {
-                assert_eq!(curve_and_order(q, m), Err(Outcome::UNKNOWN_CURVE));
+                assert_eq!(short_curve_and_order(q, m), Err(Outcome::UNKNOWN_CURVE));
             }
+        }
+        assert_eq!(short_curve_and_order(4, 63), Ok(Curve::Q_IS_4));
+        assert_eq!(short_curve_and_order(4, 64), Err(Outcome::ORDER_TOO_HIGH));
+    }
+
+    #[test]
+    fn only_one_length_of_the_work_slice_is_accepted() {
+        let bytes = vec![0; 262_146];
+        assert_eq!(work_length(&bytes[..262_144]), Ok(()));
+        for length in [0, 1, 512, 262_143, 262_145, 262_146] {
+            let refused = Err(Outcome::WRONG_WORK_LENGTH);
+            assert_eq!(work_length(&bytes[..length]), refused);
         }
     }
 

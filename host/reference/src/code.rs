@@ -6,25 +6,33 @@ use crate::field::Field;
 use crate::linear::{self, Equation, Solutions};
 use crate::outcome::Outcome;
 
-pub use crate::checks::MISSING;
+pub use crate::checks::{MISSING, WORK_LENGTH};
 
 /// Writes the word of a message.
 pub fn encode(q: u8, m: u16, message: &[u8], word: &mut [u8]) -> Outcome {
-    Outcome::from(try_encode(q, m, message, word))
+    Outcome::from(checks::curve(q).and_then(|curve| try_encode(curve, m, message, word)))
 }
 
 /// Writes the message of a whole word.
 pub fn unencode(q: u8, m: u16, word: &[u8], message: &mut [u8]) -> Outcome {
-    Outcome::from(try_decode(q, m, word, message, checks::symbols))
+    Outcome::from(checks::curve(q).and_then(|curve| try_unencode(curve, m, word, message)))
 }
 
-/// Writes the only message that fits a broken word.
+/// Writes the only message that fits a broken word of a short block.
 pub fn recover(q: u8, m: u16, word: &[u8], message: &mut [u8]) -> Outcome {
-    Outcome::from(try_decode(q, m, word, message, checks::symbols_or_missing))
+    Outcome::from(checks::short_curve(q).and_then(|curve| try_recover(curve, m, word, message)))
 }
 
-fn try_encode(q: u8, m: u16, message: &[u8], word: &mut [u8]) -> Result<(), Outcome> {
-    let code = Code::of_order(checks::curve_and_order(q, m)?, m);
+/// Writes the only message that fits a broken word of a long block (request T-09,
+/// q = 8). What the work slice holds afterwards is left open on success and with
+/// the refusals 9 and 10; here it is only looked at for its length.
+pub fn recover_long(m: u16, word: &[u8], message: &mut [u8], work: &mut [u8]) -> Outcome {
+    Outcome::from(try_recover_long(m, word, message, work))
+}
+
+fn try_encode(curve: Curve, m: u16, message: &[u8], word: &mut [u8]) -> Result<(), Outcome> {
+    checks::order(curve, m)?;
+    let code = Code::of_order(curve, m);
     checks::input_length(message, code.terms.len())?;
     checks::symbols(code.field, message)?;
     checks::output_length(word, code.points.len())?;
@@ -32,21 +40,43 @@ fn try_encode(q: u8, m: u16, message: &[u8], word: &mut [u8]) -> Result<(), Outc
     Ok(())
 }
 
-/// Unencoding and recovery differ in the values that they allow and in
-/// nothing else: a whole word is a broken word with nothing missing.
-fn try_decode(
-    q: u8,
+fn try_unencode(curve: Curve, m: u16, word: &[u8], message: &mut [u8]) -> Result<(), Outcome> {
+    let code = checked(curve, m, word, message, checks::symbols)?;
+    code.write_only_fitting_message(word, message)
+}
+
+fn try_recover(curve: Curve, m: u16, word: &[u8], message: &mut [u8]) -> Result<(), Outcome> {
+    let code = checked(curve, m, word, message, checks::symbols_or_missing)?;
+    code.write_only_fitting_message(word, message)
+}
+
+fn try_recover_long(
     m: u16,
     word: &[u8],
     message: &mut [u8],
-    check_values: fn(Field, &[u8]) -> Result<(), Outcome>,
+    work: &mut [u8],
 ) -> Result<(), Outcome> {
-    let code = Code::of_order(checks::curve_and_order(q, m)?, m);
+    let code = checked(Curve::Q_IS_8, m, word, message, checks::symbols_or_missing)?;
+    checks::work_length(work)?;
+    code.write_only_fitting_message(word, message)
+}
+
+/// The code of the order after the checks 2 to 5. Unencoding and recovery differ
+/// in the values that they allow and in nothing else: a whole word is a broken
+/// word with nothing missing.
+fn checked(
+    curve: Curve,
+    m: u16,
+    word: &[u8],
+    message: &[u8],
+    check_values: fn(Field, &[u8]) -> Result<(), Outcome>,
+) -> Result<Code, Outcome> {
+    checks::order(curve, m)?;
+    let code = Code::of_order(curve, m);
     checks::input_length(word, code.points.len())?;
     check_values(code.field, word)?;
     checks::output_length(message, code.terms.len())?;
-    message.copy_from_slice(&code.only_fitting_message(word)?);
-    Ok(())
+    Ok(code)
 }
 
 /// The code of one order: its terms are what messages have coefficients for.
@@ -72,26 +102,24 @@ impl Code {
 
     /// The message's polynomial at one point.
     fn value(&self, message: &[u8], point: Point) -> u8 {
-        let coefficients = message.iter().zip(&self.terms);
-        coefficients.fold(0, |sum, (&coefficient, &term)| {
-            let part = self
-                .field
-                .product(coefficient, self.term_value(term, point));
+        let coefficients = message.iter().zip(self.term_values(point));
+        coefficients.fold(0, |sum, (&coefficient, value)| {
+            let part = self.field.product(coefficient, value);
             self.field.sum(sum, part)
         })
     }
 
-    fn term_value(&self, term: Term, point: Point) -> u8 {
-        let x_part = self.field.power(point.x, term.x_power);
-        let y_part = self.field.power(point.y, term.y_power);
-        self.field.product(x_part, y_part)
+    /// The message only if exactly one fits.
+    fn write_only_fitting_message(&self, word: &[u8], message: &mut [u8]) -> Result<(), Outcome> {
+        message.copy_from_slice(&self.only_fitting_message(word)?);
+        Ok(())
     }
 
     pub(crate) fn only_fitting_message(&self, word: &[u8]) -> Result<Vec<u8>, Outcome> {
         match linear::solve(self.field, self.equations(word), self.terms.len()) {
             Solutions::None => Err(Outcome::NO_MESSAGE_FITS),
             Solutions::One(message) => Ok(message),
-            // There are at most 58 terms.
+            // There are at most 484 terms.
             Solutions::Several { free_unknowns } => {
                 Err(Outcome::several_messages_fit(free_unknowns as u16))
             }
@@ -111,11 +139,23 @@ impl Code {
             .collect()
     }
 
+    /// Every term at one point.
     pub(crate) fn term_values(&self, point: Point) -> Vec<u8> {
+        let highest = |power: fn(&Term) -> usize| self.terms.iter().map(power).max().unwrap_or(0);
+        let x_powers = self.field.powers(point.x, highest(|term| term.x_power));
+        let y_powers = self.field.powers(point.y, highest(|term| term.y_power));
         let terms = self.terms.iter();
-        terms.map(|&term| self.term_value(term, point)).collect()
+        terms
+            .map(|term| {
+                let (x_part, y_part) = (x_powers[term.x_power], y_powers[term.y_power]);
+                self.field.product(x_part, y_part)
+            })
+            .collect()
     }
 }
+
+#[cfg(test)]
+mod long_tests;
 
 #[cfg(test)]
 mod tests {
@@ -125,7 +165,7 @@ mod tests {
 
     type Call = fn(u8, u16, &[u8], &mut [u8]) -> Outcome;
 
-    const BAD_CURVES: [u8; 8] = [0, 1, 3, 5, 6, 8, 16, 255];
+    const BAD_CURVES: [u8; 8] = [0, 1, 3, 5, 6, 7, 16, 255];
 
     /// The result of a call, or its refusal after a look that nothing was
     /// written.
@@ -199,7 +239,7 @@ mod tests {
 
     #[test]
     fn nothing_arrived_at_every_order() {
-        for shape in Shape::every() {
+        for shape in Shape::every_short() {
             let expected = Outcome::several_messages_fit(shape.k as u16);
             let nothing = vec![MISSING; shape.n];
             assert_eq!(decode(recover, shape, &nothing), Err(expected));
@@ -209,7 +249,7 @@ mod tests {
     /// Each call starts with every fault and loses them one by one.
     #[test]
     fn refusals_come_in_the_order_of_the_checks() {
-        for shape in Shape::every() {
+        for shape in Shape::every_short() {
             let Shape { n, k, .. } = shape;
             for (call, input, output) in [(encode as Call, k, n), (unencode, n, k), (recover, n, k)]
             {
@@ -264,7 +304,7 @@ mod tests {
 
     #[test]
     fn every_value_of_q_or_more_is_bad_and_255_only_outside_broken_words() {
-        for shape in Shape::every().filter(|shape| shape.m % 9 == 1) {
+        for shape in Shape::every_short().filter(|shape| shape.m % 9 == 1) {
             for value in shape.field_size..=255 {
                 let mut word = vec![0; shape.n];
                 word[shape.n - 1] = value;
@@ -298,7 +338,7 @@ mod tests {
     #[test]
     fn words_give_their_message_back_at_every_order() {
         let mut generator = Generator::with_seed(21);
-        for shape in Shape::every() {
+        for shape in Shape::every_short() {
             let message = sample::message(&mut generator, shape);
             let word = shape.word_of(&message);
             assert_eq!(decode(unencode, shape, &word), Ok(message.clone()));
@@ -309,7 +349,7 @@ mod tests {
     #[test]
     fn unencoding_is_recovery_of_a_whole_word_and_never_answers_10() {
         let mut generator = Generator::with_seed(22);
-        for shape in Shape::every() {
+        for shape in Shape::every_short() {
             let word = sample::codeword(&mut generator, shape);
             let damaged = sample::damaged(&mut generator, shape, &word);
             let arbitrary = sample::symbols(&mut generator, shape, shape.n);
@@ -377,7 +417,7 @@ mod tests {
 
     #[test]
     fn the_constant_coefficient_counts() {
-        for shape in Shape::every() {
+        for shape in Shape::every_short() {
             let mut message = vec![0; shape.k];
             message[0] = shape.field_size - 1;
             let constant_word = vec![shape.field_size - 1; shape.n];
@@ -407,7 +447,7 @@ mod tests {
     #[test]
     fn m_plus_1_symbols_are_always_enough() {
         let mut generator = Generator::with_seed(24);
-        for shape in Shape::every() {
+        for shape in Shape::every_short() {
             for _ in 0..4 {
                 let message = sample::message(&mut generator, shape);
                 let word = shape.word_of(&message);
@@ -442,7 +482,7 @@ mod tests {
     #[test]
     fn k_symbols_need_not_be_enough() {
         let mut generator = Generator::with_seed(26);
-        for shape in Shape::every().filter(|shape| shape.columns_of_order() > 0) {
+        for shape in Shape::every_short().filter(|shape| shape.columns_of_order() > 0) {
             let word = sample::codeword(&mut generator, shape);
             let columns = shape.columns_of_order();
             let broken = sample::with_known_columns(&mut generator, shape, &word, columns);
@@ -456,7 +496,7 @@ mod tests {
     #[test]
     fn any_set_of_whole_columns_gives_the_message() {
         let mut generator = Generator::with_seed(27);
-        for shape in Shape::every() {
+        for shape in Shape::every_short() {
             let enough = shape.columns_of_order() + 1;
             for columns in enough..=usize::from(shape.field_size) {
                 let message = sample::message(&mut generator, shape);

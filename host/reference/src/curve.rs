@@ -1,9 +1,9 @@
-//! The two Hermitian curves y^q + y = x^(q+1), their points and their terms.
+//! The three Hermitian curves y^q + y = x^(q+1), their points and their terms.
 
 use crate::field::Field;
 
 /// A curve with the fixed numbers of the paper's table. The parts are private,
-/// so that a `Curve` is always one of the two.
+/// so that a `Curve` is always one of the three.
 #[derive(Clone, Copy, Debug, PartialEq, Eq)]
 pub struct Curve {
     q: u8,
@@ -41,11 +41,27 @@ impl Curve {
         genus: 6,
     };
 
-    pub const BOTH: [Curve; 2] = [Curve::Q_IS_2, Curve::Q_IS_4];
+    /// Request T-09: the curve of long blocks.
+    pub const Q_IS_8: Curve = Curve {
+        q: 8,
+        field: Field::OF_64,
+        point_count: 512,
+        genus: 28,
+    };
+
+    /// The curves of short blocks, which every call takes that names a curve.
+    pub const SHORT: [Curve; 2] = [Curve::Q_IS_2, Curve::Q_IS_4];
+
+    pub const ALL: [Curve; 3] = [Curve::Q_IS_2, Curve::Q_IS_4, Curve::Q_IS_8];
 
     /// The curve that q names.
     pub fn named(q: u8) -> Option<Curve> {
-        Curve::BOTH.into_iter().find(|curve| curve.q == q)
+        Curve::ALL.into_iter().find(|curve| curve.q == q)
+    }
+
+    /// The curve of short blocks that q names.
+    pub fn short_named(q: u8) -> Option<Curve> {
+        Curve::SHORT.into_iter().find(|curve| curve.q == q)
     }
 
     pub fn q(self) -> u8 {
@@ -82,17 +98,18 @@ impl Curve {
 
     /// The points by x ascending, then y ascending; the index is the place.
     pub fn points(self) -> Vec<Point> {
-        let size = self.field.size();
-        (0..size)
-            .flat_map(|x| (0..size).map(move |y| Point { x, y }))
-            .filter(|&point| self.contains(point))
-            .collect()
-    }
-
-    fn contains(self, point: Point) -> bool {
         let q = usize::from(self.q);
-        let left = self.field.sum(self.field.power(point.y, q), point.y);
-        left == self.field.power(point.x, q + 1)
+        let symbols = 0..self.field.size();
+        let left_side = |y| self.field.sum(self.field.power(y, q), y);
+        let left_sides: Vec<(u8, u8)> = symbols.clone().map(|y| (y, left_side(y))).collect();
+        let column = |x| {
+            let right_side = self.field.power(x, q + 1);
+            let on_the_curve = left_sides
+                .iter()
+                .filter(move |(_, left)| *left == right_side);
+            on_the_curve.map(move |&(y, _)| Point { x, y })
+        };
+        symbols.flat_map(column).collect()
     }
 
     /// The terms of weight up to the order m, by ascending weight.
@@ -131,9 +148,13 @@ mod tests {
             x_power: 0,
             y_power: 1,
         };
-        let rows = [(2, 4, 8, 1, 2, 3), (4, 16, 64, 6, 4, 5)];
+        let rows = [
+            (2, 4, 8, 1, 2, 3),
+            (4, 16, 64, 6, 4, 5),
+            (8, 64, 512, 28, 8, 9),
+        ];
         for (q, size, n, g, x_weight, y_weight) in rows {
-            let curve = Curve::named(q).expect("one of the two curves");
+            let curve = Curve::named(q).expect("one of the three curves");
             assert_eq!(curve.q(), q);
             assert_eq!(curve.field().size(), size);
             assert_eq!((curve.point_count(), curve.genus()), (n, g));
@@ -142,9 +163,12 @@ mod tests {
     }
 
     #[test]
-    fn only_2_and_4_name_a_curve() {
-        for q in (0..=255).filter(|q| ![2, 4].contains(q)) {
-            assert_eq!(Curve::named(q), None);
+    fn only_2_4_and_8_name_a_curve_and_8_no_short_one() {
+        for q in 0..=255 {
+            let short = [2, 4].contains(&q).then_some(q);
+            let any = [2, 4, 8].contains(&q).then_some(q);
+            assert_eq!(Curve::short_named(q).map(Curve::q), short);
+            assert_eq!(Curve::named(q).map(Curve::q), any);
         }
     }
 
@@ -178,9 +202,38 @@ mod tests {
         assert_eq!(points_as_pairs(Curve::Q_IS_4)[..8], expected);
     }
 
+    /// Column 0 is the field of 8 elements in that of 64: the powers of z^9 = 24.
+    #[test]
+    fn first_points_of_q_8() {
+        let column_0 = [0, 1, 14, 15, 22, 23, 24, 25].map(|y| (0, y));
+        let column_1 = [34, 35, 44, 45, 52, 53, 58, 59].map(|y| (1, y));
+        let points = points_as_pairs(Curve::Q_IS_8);
+        assert_eq!(points[..8], column_0);
+        assert_eq!(points[8..16], column_1);
+    }
+
+    /// All 4096 pairs of two symbols, by the equation as the request writes it.
+    #[test]
+    fn every_point_of_q_8_is_there_once_and_nothing_else() {
+        let field = Field::OF_64;
+        let points = points_as_pairs(Curve::Q_IS_8);
+        assert_eq!(points.len(), 512);
+        assert!(points.windows(2).all(|pair| pair[0] < pair[1]));
+        let mut on_the_curve = 0;
+        for x in 0..64 {
+            for y in 0..64 {
+                let left = field.power(y, 8) ^ y;
+                let is_point = left == field.power(x, 9);
+                assert_eq!(points.contains(&(x, y)), is_point, "{x} {y}");
+                on_the_curve += usize::from(is_point);
+            }
+        }
+        assert_eq!(on_the_curve, 512);
+    }
+
     #[test]
     fn column_x_is_the_q_places_from_q_times_x() {
-        for curve in Curve::BOTH {
+        for curve in Curve::ALL {
             let points = curve.points();
             assert_eq!(points.len(), curve.point_count());
             for (place, point) in points.iter().enumerate() {
@@ -199,9 +252,30 @@ mod tests {
         }
     }
 
+    /// Below 2g - 1 = 55 some weights are no term's: 1 to 7 and others.
+    #[test]
+    fn message_lengths_of_q_8() {
+        let rows = [
+            (0, 1),
+            (7, 1),
+            (8, 2),
+            (9, 3),
+            (53, 27),
+            (54, 28),
+            (55, 28),
+            (56, 29),
+            (300, 273),
+            (510, 483),
+            (511, 484),
+        ];
+        for (m, k) in rows {
+            assert_eq!(Curve::Q_IS_8.terms(m).len(), k, "{m}");
+        }
+    }
+
     #[test]
     fn weights_of_different_terms_differ_and_ascend() {
-        for curve in Curve::BOTH {
+        for curve in Curve::ALL {
             for m in curve.orders() {
                 let terms = curve.terms(m);
                 let weights: Vec<usize> = terms.iter().map(|&t| curve.weight(t)).collect();
@@ -214,7 +288,7 @@ mod tests {
 
     #[test]
     fn from_2g_minus_1_on_there_are_m_plus_1_minus_g_terms() {
-        for curve in Curve::BOTH {
+        for curve in Curve::ALL {
             let g = curve.genus();
             for m in curve.orders().filter(|&m| usize::from(m) + 1 >= 2 * g) {
                 assert_eq!(curve.terms(m).len(), usize::from(m) + 1 - g);

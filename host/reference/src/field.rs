@@ -1,7 +1,8 @@
-//! The fields of 4 and of 16 elements.
+//! The fields of 4, of 16 and of 64 elements.
 //!
 //! A symbol's bits are the coefficients of a polynomial in z, lowest first,
-//! and products are polynomial products reduced by z^2 = z + 1 or z^4 = z + 1.
+//! and products are polynomial products reduced by z^2 = z + 1, z^4 = z + 1 or
+//! z^6 = z + 1.
 
 /// A field of 2 to the power `degree` elements. Its operations are for symbols
 /// below that number.
@@ -25,6 +26,12 @@ impl Field {
         modulus: 0b10011,
     };
 
+    /// Q = 64, with z^6 + z + 1 = 0 (request T-09).
+    pub const OF_64: Field = Field {
+        degree: 6,
+        modulus: 0b1000011,
+    };
+
     /// Q, the number of elements.
     pub fn size(self) -> u8 {
         1 << self.degree
@@ -41,6 +48,21 @@ impl Field {
     /// The `exponent`-fold product of `base`; 1 if `exponent` is 0.
     pub fn power(self, base: u8, exponent: usize) -> u8 {
         (0..exponent).fold(1, |product, _| self.product(product, base))
+    }
+
+    /// The powers of `base` with the exponents from 0 to `highest`.
+    pub fn powers(self, base: u8, highest: usize) -> Vec<u8> {
+        let next = |power: &u8| Some(self.product(*power, base));
+        std::iter::successors(Some(1), next)
+            .take(highest + 1)
+            .collect()
+    }
+
+    /// The products of all symbols: row a holds those with a.
+    pub fn product_rows(self) -> Vec<Vec<u8>> {
+        let symbols = 0..self.size();
+        let row = |a| symbols.clone().map(|b| self.product(a, b)).collect();
+        symbols.clone().map(row).collect()
     }
 
     /// Found by trying every element. No product with 0 is 1, so 0 has none.
@@ -76,7 +98,7 @@ impl Field {
 mod tests {
     use super::*;
 
-    const FIELDS: [Field; 2] = [Field::OF_4, Field::OF_16];
+    const FIELDS: [Field; 3] = [Field::OF_4, Field::OF_16, Field::OF_64];
 
     #[test]
     fn products_obey_the_laws_of_a_field() {
@@ -110,6 +132,31 @@ mod tests {
     fn z_obeys_the_rule_of_its_field() {
         assert_eq!(Field::OF_4.power(2, 2), 2 ^ 1);
         assert_eq!(Field::OF_16.power(2, 4), 2 ^ 1);
+        assert_eq!(Field::OF_64.power(2, 6), 2 ^ 1);
+    }
+
+    /// 2 and 9 by hand: z * z^5 = z + 1, and (z^3 + 1)^2 = z^6 + 1 = z.
+    #[test]
+    fn some_products_of_64_elements() {
+        let products = [(2, 32, 3), (9, 9, 2), (32, 32, 48), (2, 33, 1)];
+        for (a, b, product) in products {
+            assert_eq!(Field::OF_64.product(a, b), product);
+        }
+        assert_eq!(Field::OF_64.inverse(2), Some(33));
+    }
+
+    #[test]
+    fn lists_of_powers_and_products_hold_each_of_them() {
+        for field in FIELDS {
+            for (a, row) in (0..).zip(field.product_rows()) {
+                let products = (0..field.size()).map(|b| field.product(a, b));
+                assert!(products.eq(row));
+                let powers = (0..9).map(|exponent| field.power(a, exponent));
+                assert!(powers.eq(field.powers(a, 8)));
+            }
+            assert_eq!(field.product_rows().len(), usize::from(field.size()));
+            assert_eq!(field.powers(0, 0), [1]);
+        }
     }
 
     #[test]

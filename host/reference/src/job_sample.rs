@@ -40,7 +40,7 @@ pub fn job_cases() -> Vec<Case> {
         cases: Vec::new(),
     };
     builder.before_any_opening();
-    for shape in Shape::every() {
+    for shape in Shape::every_short() {
         builder.jobs_of_words(shape);
         builder.refused_words(shape);
         builder.jobs_of_stored_sessions(shape);
@@ -284,7 +284,7 @@ mod tests {
     #[test]
     fn every_answer_of_every_order_occurs() {
         let calls = calls();
-        for shape in Shape::every() {
+        for shape in Shape::every_short() {
             let order = (shape.q(), shape.m);
             let of_order = calls.iter().filter(|call| call.0 == order);
             let found: BTreeSet<Answer> = of_order.map(|call| call.2.clone()).collect();

@@ -6,7 +6,7 @@
 //! and recovery by Gauss elimination on one equation for each known symbol, a job
 //! by recovery from the symbols brought in so far, anew at each call, and mending
 //! by trying every message, or on the larger curve by Gauss elimination and
-//! recovery.
+//! recovery. Long blocks, q = 8, go the same way as short ones.
 
 #![forbid(unsafe_code)]
 
@@ -22,6 +22,9 @@ pub mod generator;
 pub mod job;
 pub mod job_sample;
 mod linear;
+pub mod long_case_record;
+pub mod long_curve_sample;
+pub mod long_sample;
 pub mod mend;
 pub mod mend_sample;
 pub mod outcome;

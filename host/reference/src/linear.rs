@@ -59,48 +59,55 @@ pub fn nonzero_solution(field: Field, rows: Vec<Vec<u8>>, unknowns: usize) -> Op
 /// Brings the equations to reduced row echelon form and gives the pivots'
 /// columns by row. Their number is the rank.
 fn reduce(field: Field, equations: &mut [Equation], unknowns: usize) -> Vec<usize> {
+    let products = field.product_rows();
     let mut pivots = Vec::new();
     for column in 0..unknowns {
         let rank = pivots.len();
         let pivot = (rank..equations.len()).find(|&row| equations[row].coefficients[column] != 0);
         if let Some(pivot) = pivot {
             equations.swap(rank, pivot);
-            clear_column(field, equations, rank, column);
+            let lead = equations[rank].coefficients[column];
+            let inverse = field.inverse(lead).expect("a pivot isn't 0");
+            scale(&mut equations[rank], &products[usize::from(inverse)]);
+            clear_column(&products, equations, rank, column);
             pivots.push(column);
         }
     }
     pivots
 }
 
-/// Makes the pivot's coefficient 1 and that of every other equation 0.
-fn clear_column(field: Field, equations: &mut [Equation], pivot_row: usize, column: usize) {
-    let lead = equations[pivot_row].coefficients[column];
-    let inverse = field.inverse(lead).expect("a pivot isn't 0");
-    let pivot = scaled(field, &equations[pivot_row], inverse);
+/// Multiplies the equation by a symbol, whose products are given.
+fn scale(equation: &mut Equation, products: &[u8]) {
+    for entry in equation
+        .coefficients
+        .iter_mut()
+        .chain([&mut equation.value])
+    {
+        *entry = products[usize::from(*entry)];
+    }
+}
+
+/// Makes the coefficient of every other equation 0. That of the pivot is 1, and
+/// before it the pivot's equation has only zeros.
+fn clear_column(products: &[Vec<u8>], equations: &mut [Equation], pivot_row: usize, column: usize) {
+    let pivot = equations[pivot_row].clone();
     for (row, equation) in equations.iter_mut().enumerate() {
-        if row == pivot_row {
-            *equation = pivot.clone();
-        } else {
-            // Minus is plus in characteristic 2.
-            let factor = equation.coefficients[column];
-            add_to(field, equation, &scaled(field, &pivot, factor));
+        // Minus is plus in characteristic 2.
+        let factor = usize::from(equation.coefficients[column]);
+        if row != pivot_row && factor != 0 {
+            add_multiple(equation, &pivot, &products[factor], column);
         }
     }
 }
 
-fn scaled(field: Field, equation: &Equation, factor: u8) -> Equation {
-    let coefficients = equation.coefficients.iter();
-    Equation {
-        coefficients: coefficients.map(|&c| field.product(c, factor)).collect(),
-        value: field.product(equation.value, factor),
+/// Adds the multiple of another equation whose factor's products are given, from
+/// a column on.
+fn add_multiple(equation: &mut Equation, other: &Equation, products: &[u8], column: usize) {
+    let left = equation.coefficients[column..].iter_mut();
+    for (left, &right) in left.zip(&other.coefficients[column..]) {
+        *left ^= products[usize::from(right)];
     }
-}
-
-fn add_to(field: Field, equation: &mut Equation, other: &Equation) {
-    for (left, &right) in equation.coefficients.iter_mut().zip(&other.coefficients) {
-        *left = field.sum(*left, right);
-    }
-    equation.value = field.sum(equation.value, other.value);
+    equation.value ^= products[usize::from(other.value)];
 }
 
 #[cfg(test)]

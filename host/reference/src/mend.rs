@@ -46,7 +46,7 @@ fn try_mend(
     mended: &mut [u8],
     marks: &mut [u8],
 ) -> Result<u8, Outcome> {
-    let mender = Mender::of_order(checks::curve_and_order(q, m)?, m)?;
+    let mender = Mender::of_order(checks::short_curve_and_order(q, m)?, m)?;
     let Shape { n, k, curve, .. } = mender.shape;
     checks::input_length(word, n)?;
     checks::symbols(curve.field(), word)?;
@@ -384,7 +384,7 @@ mod tests {
     /// Each call starts with every fault and loses them one by one.
     #[test]
     fn refusals_come_in_the_order_of_the_checks() {
-        for shape in Shape::every() {
+        for shape in Shape::every_short() {
             let (q, m, n, bad) = (shape.q(), shape.m, shape.n, shape.field_size);
             let too_long = [shape.k + 1, n + 1, n + 1];
             for curve_number in (0..=255).filter(|number| ![2, 4].contains(number)) {

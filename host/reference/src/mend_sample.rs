@@ -16,7 +16,7 @@ pub fn mend_cases() -> Vec<Case> {
         generator: Generator::with_seed(SEED),
         cases: Vec::new(),
     };
-    for shape in Shape::every() {
+    for shape in Shape::every_short() {
         match shape.curve.radius(shape.m) {
             Some(radius) => builder.mended_order(shape, radius),
             None => builder.order_too_high_to_mend(shape),
@@ -175,7 +175,7 @@ mod tests {
                 (case.q, case.m, number, count)
             })
             .collect();
-        for shape in Shape::every() {
+        for shape in Shape::every_short() {
             let of_order = answers
                 .iter()
                 .filter(|a| (a.0, a.1) == (shape.q(), shape.m));

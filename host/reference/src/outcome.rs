@@ -19,6 +19,7 @@ impl Outcome {
     pub const NO_CODEWORD_NEAR: Outcome = Outcome::plain(11);
     pub const ORDER_TOO_HIGH_TO_MEND: Outcome = Outcome::plain(12);
     pub const INVERSE_OF_ZERO: Outcome = Outcome::plain(13);
+    pub const WRONG_WORK_LENGTH: Outcome = Outcome::plain(14);
 
     const fn plain(number: u8) -> Outcome {
         Outcome { number, second: 0 }
@@ -75,6 +76,7 @@ mod tests {
             Outcome::NO_CODEWORD_NEAR,
             Outcome::ORDER_TOO_HIGH_TO_MEND,
             Outcome::INVERSE_OF_ZERO,
+            Outcome::WRONG_WORK_LENGTH,
         ];
         // Request T-01: refusal 8 no longer occurs.
         let expected = (0u8..).filter(|&number| number != 8);

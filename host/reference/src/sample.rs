@@ -6,7 +6,8 @@ use crate::code::{self, MISSING};
 use crate::curve::Curve;
 use crate::generator::Generator;
 
-/// Numbers that name no curve.
+/// Numbers that name no curve of short blocks. Field operations, encode and
+/// unencode take 8 since request T-09.
 pub const BAD_CURVES: [u8; 6] = [0, 1, 3, 5, 8, 255];
 
 /// Curve numbers, each with an order of n or more.
@@ -65,14 +66,14 @@ impl Shape {
         curve.orders().map(move |m| Shape::of(curve, m))
     }
 
-    /// The shape of every accepted order of both curves.
-    pub fn every() -> impl Iterator<Item = Shape> {
-        Curve::BOTH.into_iter().flat_map(Shape::every_order)
+    /// The shape of every accepted order of both curves of short blocks.
+    pub fn every_short() -> impl Iterator<Item = Shape> {
+        Curve::SHORT.into_iter().flat_map(Shape::every_order)
     }
 
     /// The shape of every order at which words are mended, with its t.
     pub fn every_mended() -> impl Iterator<Item = (Shape, usize)> {
-        Shape::every().filter_map(|shape| Some((shape, shape.curve.radius(shape.m)?)))
+        Shape::every_short().filter_map(|shape| Some((shape, shape.curve.radius(shape.m)?)))
     }
 
     pub fn q(self) -> u8 {
@@ -247,7 +248,7 @@ mod tests {
     #[test]
     fn broken_words_keep_the_known_symbols() {
         let mut generator = Generator::with_seed(41);
-        for shape in Shape::every() {
+        for shape in Shape::every_short() {
             let word = codeword(&mut generator, shape);
             let known = generator.below(shape.n + 1);
             let broken = with_known(&mut generator, &word, known);
@@ -293,7 +294,7 @@ mod tests {
     #[test]
     fn as_many_symbols_are_wrong_as_asked_for() {
         let mut generator = Generator::with_seed(43);
-        for shape in Shape::every() {
+        for shape in Shape::every_short() {
             for count in 0..=shape.n {
                 let word = symbols(&mut generator, shape, shape.n);
                 let wrong = with_wrong(&mut generator, shape, &word, count);
@@ -307,7 +308,7 @@ mod tests {
     #[test]
     fn a_neighbour_agrees_on_m_by_q_columns() {
         let mut generator = Generator::with_seed(44);
-        for shape in Shape::every() {
+        for shape in Shape::every_short() {
             let word = codeword(&mut generator, shape);
             let other = neighbour(&mut generator, shape, &word);
             let agreeing = word.iter().zip(&other).filter(|(a, b)| a == b).count();

@@ -7,7 +7,7 @@ use crate::curve::Curve;
 use crate::job::Job;
 use crate::outcome::Outcome;
 
-/// The places that a session holds, for either curve.
+/// The places that a session holds, for either curve of short blocks.
 pub const PLACE_COUNT: usize = 64;
 
 /// The mark of a conflict, a place where two different symbols of its round
@@ -38,7 +38,7 @@ impl Session {
     }
 
     pub fn open(q: u8, m: u16) -> (Session, Outcome) {
-        match checks::curve_and_order(q, m) {
+        match checks::short_curve_and_order(q, m) {
             Ok(_) => (Session::with_all_missing(q, m), Outcome::ACCEPTED),
             Err(refusal) => (Session::OF_REFUSED_OPENING, refusal),
         }
@@ -56,7 +56,7 @@ impl Session {
     /// Recovery from the stored q, m and first n places, a conflict being
     /// missing.
     pub fn ask(&self, message: &mut [u8]) -> Outcome {
-        match Curve::named(self.q) {
+        match Curve::short_named(self.q) {
             Some(curve) => code::recover(self.q, self.m, &self.received_word(curve), message),
             None => Outcome::UNKNOWN_CURVE,
         }
@@ -64,14 +64,14 @@ impl Session {
 
     /// Opens a job from what asking takes, a conflict being missing.
     pub fn job(&self) -> (Job, Outcome) {
-        match Curve::named(self.q) {
+        match Curve::short_named(self.q) {
             Some(curve) => Job::open(self.q, self.m, &self.received_word(curve)),
             None => (Job::OF_REFUSED_OPENING, Outcome::UNKNOWN_CURVE),
         }
     }
 
     fn check_arrival(&self, place: u16, symbol: u8) -> Result<(), Outcome> {
-        let curve = checks::curve_and_order(self.q, self.m)?;
+        let curve = checks::short_curve_and_order(self.q, self.m)?;
         checks::symbols_or_missing(curve.field(), &self.received_word(curve))?;
         if usize::from(place) >= curve.point_count() {
             return Err(Outcome::PLACE_TOO_HIGH);
@@ -195,7 +195,7 @@ mod tests {
 
     #[test]
     fn nothing_arrived_at_every_order() {
-        for shape in Shape::every() {
+        for shape in Shape::every_short() {
             let mut message = vec![7; shape.k];
             let outcome = opened(shape.q(), shape.m).ask(&mut message);
             assert_eq!(outcome.number, 10);
@@ -303,7 +303,7 @@ mod tests {
     #[test]
     fn m_plus_1_places_without_conflict_are_enough() {
         let mut generator = Generator::with_seed(33);
-        for shape in Shape::every() {
+        for shape in Shape::every_short() {
             let message = sample::message(&mut generator, shape);
             let word = shape.word_of(&message);
             let mut session = opened(shape.q(), shape.m);
@@ -408,7 +408,7 @@ mod tests {
     #[test]
     fn a_finished_job_says_what_asking_says() {
         let mut generator = Generator::with_seed(35);
-        for shape in Shape::every().flat_map(|shape| [shape; 4]) {
+        for shape in Shape::every_short().flat_map(|shape| [shape; 4]) {
             let word = sample::codeword(&mut generator, shape);
             let mut session = opened(shape.q(), shape.m);
             for _ in 0..generator.below(2 * shape.n) {

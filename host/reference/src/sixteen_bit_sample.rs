@@ -181,7 +181,7 @@ mod tests {
     #[test]
     fn every_call_refuses_every_order_that_is_too_high() {
         let found = cases_and_lines();
-        for curve in Curve::BOTH {
+        for curve in Curve::SHORT {
             for m in sample::numbers_too_high(curve) {
                 let of_order = found
                     .iter()
@@ -197,7 +197,7 @@ mod tests {
     #[test]
     fn a_look_at_the_low_byte_of_an_order_would_find_no_fault() {
         let cases = sixteen_bit_cases();
-        for shape in Shape::every() {
+        for shape in Shape::every_short() {
             let q_and_m = (shape.q(), shape.m + 256);
             let of_order = cases.iter().filter(|case| (case.q, case.m) == q_and_m);
             let cut = of_order.map(|case| Case {
@@ -215,6 +215,8 @@ mod tests {
     }
 
     /// Also in sessions that no opening gave; only `s` and `y` are never refused.
+    /// Encode and unencode take q = 8 since request T-09, where the messages and
+    /// words of these cases are too short for an order up to 511.
     #[test]
     fn an_order_above_255_meets_2_or_before_it_1() {
         let mut runner = Runner::default();
@@ -226,7 +228,12 @@ mod tests {
                 _ => (case.q, case.m),
             };
             if m > 255 && !b"sy".contains(&case.op) {
-                let expected = if [2, 4].contains(&q) { 2 } else { 1 };
+                let expected = match q {
+                    2 | 4 => 2,
+                    8 if b"eu".contains(&case.op) && m < 512 => 3,
+                    8 if b"eu".contains(&case.op) => 2,
+                    _ => 1,
+                };
                 assert_eq!(number(&line), expected, "{line}");
             }
         }
@@ -243,7 +250,7 @@ mod tests {
                 found.insert((q, case.place, number(&line)));
             }
         }
-        for curve in Curve::BOTH {
+        for curve in Curve::SHORT {
             for place in sample::numbers_too_high(curve) {
                 if place > 255 {
                     for refusal in [4, 6] {
@@ -264,7 +271,7 @@ mod tests {
         let accepted: BTreeSet<(u8, u8, u16)> = accepted
             .map(|(case, _)| (case.op, case.q, case.m))
             .collect();
-        for shape in Shape::every() {
+        for shape in Shape::every_short() {
             let (q, m) = (shape.q(), shape.m);
             assert!(accepted.contains(&(b't', q, m)), "{q} {m}");
             let has_room = usize::from(m) < MOST_ARRIVALS;

@@ -1,7 +1,7 @@
 -- What the code keeps of the columns: their y in one list, and lists of columns that a word may be over.
 use mathlib.Core.List.{List}
 use mathlib.Core.Path.{_≡_}
-use Prim.Native.Nat.{ℕ, _+_, _*_, _<_}
+use Prim.Native.Nat.{ℕ, _+_, _*_, _≤_, _<_}
 use lib.ListN.{length, getD}
 use Rattle.field.specs.Curve.{IsCurve}
 use Rattle.field.proofs.Fields.{fieldOf}
@@ -11,13 +11,13 @@ use Rattle.code.specs.Points.{ysOf}
 
 -- the y of each column x stand from q·x on
 pub record Ys (q : ℕ) (list : List ℕ) : Type 0 where
-  pub long : length list ≡ 64
+  pub long : q * q * q ≤ length list
   pub column : (x : ℕ) → x < q * q → part list (q * x) (q * x + q) ≡ ysOf q x
   pub symbols : Below (fieldOf q .size) list
 
 -- the same in a list that has sixteen symbols from each q·x on
 pub record PaddedYs (q : ℕ) (list : List ℕ) : Type 0 where
-  pub long : length list ≡ 80
+  pub long : q * q * q + 16 ≤ length list
   pub at : (x s : ℕ) → x < q * q → s < q → getD list (q * x + s) 0 ≡ getD (ysOf q x) s 0
   pub symbols : Below (fieldOf q .size) list
 

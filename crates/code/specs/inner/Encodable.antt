@@ -3,6 +3,7 @@ use mathlib.Core.List.{List}
 use mathlib.Core.Path.{_≡_}
 use Prim.Native.Nat.{ℕ, _+_, _*_, _≤_, _<_}
 use lib.ListN.{length, getD}
+use Rattle.field.specs.Curve.{IsCurve}
 use Rattle.field.proofs.Fields.{fieldOf}
 use Rattle.poly.specs.inner.Polynomials.{value}
 use Rattle.poly.specs.inner.Ranges.{Below, Blocks}
@@ -12,7 +13,7 @@ use Rattle.code.specs.inner.Columns.{Columns, columnY}
 -- a message of order m, and room for its word over the columns
 pub record Encodable (q : ℕ) (columns : List ℕ) (m : ℕ) (message word : List ℕ) : Type 0 where
   pub over : Columns q columns
-  pub few : length columns ≤ 16
+  pub few : length columns ≤ q * q
   pub order : m < q * length columns
   pub long : length message ≡ size q m
   pub symbols : Below (fieldOf q .size) message
@@ -30,9 +31,14 @@ inY q rows t y = value (fieldOf q) q (λ j. getD rows (16 * j + t) 0) y
 abbrev pub columnValue : ℕ → List ℕ → List ℕ → ℕ → ℕ → ℕ
 columnValue q columns rows t s = inY q rows t (columnY q columns t s)
 
+-- both stages: the polynomial of a grid, with n coefficients before each y^j, at the y number s of column t
+abbrev pub gridColumn : ℕ → List ℕ → ℕ → List ℕ → ℕ → ℕ → ℕ
+gridColumn q columns n grid t s = value (fieldOf q) q (λ j. rowValue q columns n grid j t) (columnY q columns t s)
+
 -- at most sixteen columns, and symbols
 pub record Staged (q : ℕ) (columns list : List ℕ) : Type 0 where
-  pub over : Columns q columns
+  pub curve : IsCurve q
+  pub columns-below : Below (fieldOf q .size) columns
   pub few : length columns ≤ 16
   pub symbols : Below (fieldOf q .size) list
 

@@ -3,7 +3,7 @@
 use mathlib.Core.Bool.{Bool, cond}
 use mathlib.Core.List.{List}
 use mathlib.Core.Path.{_≡_}
-use Prim.Native.Nat.{ℕ, _+_, _*_, _/_, _%_, _≤_, _<_}
+use Prim.Native.Nat.{ℕ, _+_, _-_, _*_, _/_, _%_, _≤_, _<_}
 use lib.Dec.{eqb, ltb}
 use lib.ListN.{length, getD}
 use Rattle.field.proofs.Fields.{fieldOf}
@@ -14,7 +14,9 @@ use Rattle.poly.specs.inner.Polynomials.{value}
 use Rattle.poly.specs.inner.Indicators.{indicator}
 use Rattle.poly.specs.inner.Combinations.{Family, Symbols}
 use Rattle.code.specs.Passing.{passing}
-use Rattle.code.specs.inner.Grid.{weightOf}
+use Rattle.field.specs.declared.outcome.Outcome.the-variants.{Done, NoMessage, Several}
+use Rattle.code.specs.Answers.{Answer, answered}
+use Rattle.code.specs.inner.Grid.{weightOf, gather, orderAtMost}
 use Rattle.code.specs.inner.Columns.{columnY}
 
 -- the polynomial whose coefficient of x^i·y^j is f (q·i + j), at the y number s of column t
@@ -56,6 +58,12 @@ pub record IndicatorRows (q : ℕ) (columns gaps : List ℕ) (stride : ℕ) (vec
   pub at : (p i j : ℕ) → p < length gaps → i < length columns → j < q → entry vectors (stride * p + (q * i + j))
       ≡ pointTerm q (getD columns (entry gaps p / q) 0) (columnY q columns (entry gaps p / q) (entry gaps p % q)) i j
   pub zeros : (p i : ℕ) → p < length gaps → q * length columns ≤ i → i < stride → entry vectors (stride * p + i) ≡ 0
+
+-- what is answered from the grid that elimination leaves, count gaps' vectors having the rank
+abbrev pub restAnswer : ℕ → ℕ → ℕ → ℕ → List ℕ → List ℕ → Answer
+restAnswer q m count rank grid slice =
+    cond (orderAtMost q m (length grid) grid) (cond (ltb rank count) (answered (Several (count - rank)) slice) (answered Done (gather q m grid)))
+    (answered NoMessage slice)
 
 -- the grid of the word with 0 at the gaps, and zeros
 pub record KnownGrid (q : ℕ) (columns broken grid : List ℕ) : Type 0 where

@@ -1,6 +1,6 @@
 -- What the inner functions of unencoding ask and give. A word is over a list of different columns; its grid has the coefficient of x^i·y^j
 -- at q·i + j.
-use mathlib.Core.Bool.{cond}
+use mathlib.Core.Bool.{Bool, cond}
 use mathlib.Core.List.{List}
 use mathlib.Core.Path.{_≡_}
 use Prim.Native.Nat.{ℕ, _+_, _*_, _≤_, _<_}
@@ -9,6 +9,7 @@ use Rattle.field.proofs.Fields.{fieldOf}
 use Rattle.poly.specs.inner.Ranges.{Below}
 use Rattle.poly.specs.inner.Polynomials.{value}
 use Rattle.poly.proofs.Interpolants.{at-column}
+use Rattle.code.specs.Points.{columnsOf}
 use Rattle.code.specs.Terms.{size}
 use Rattle.code.specs.Word.{wordOf}
 use Rattle.code.specs.Fitting.{fitting}
@@ -23,7 +24,7 @@ use Rattle.code.specs.Unencoded.{theMessage}
 -- a word over the columns, or as many other symbols
 pub record WordOver (q : ℕ) (columns word : List ℕ) : Type 0 where
   pub over : Columns q columns
-  pub few : length columns ≤ 16
+  pub few : length columns ≤ q * q
   pub long : length word ≡ q * length columns
   pub symbols : Below (fieldOf q .size) word
 
@@ -55,6 +56,11 @@ pub record Readable (q : ℕ) (columns : List ℕ) (m : ℕ) (word message : Lis
 -- of the messages that have the word over the columns, the one
 abbrev pub readOver : ℕ → List ℕ → ℕ → List ℕ → List ℕ → Answer
 readOver q columns m word slice = theMessage (fitting (q * q) (size q m) (wordOf q columns m) word) slice
+
+-- of a long block: its message where the call decodes, and else its word
+abbrev pub longAnswer : Bool → ℕ → List ℕ → List ℕ → Answer
+longAnswer decodes m input slice =
+    cond decodes (readOver 8 (columnsOf 8) m input slice) (answered Done (wordOf 8 (columnsOf 8) m input))
 
 -- of a grid, its message where it has no coefficient of a weight above m
 abbrev pub gridAnswer : ℕ → ℕ → List ℕ → List ℕ → Answer

@@ -26,7 +26,7 @@ pub record EquationAt (q m x y s : ℕ) (row : List ℕ) : Type 0 where
 -- a broken word over a list of columns, of an order m
 pub record BrokenOver (q : ℕ) (columns : List ℕ) (m : ℕ) (word : List ℕ) : Type 0 where
   pub over : Columns q columns
-  pub few : length columns ≤ 16
+  pub few : length columns ≤ q * q
   pub order : m < q * length columns
   pub long : length word ≡ q * length columns
   pub value : (p : ℕ) → p < length word → (getD word p 0 ≡ 255) ⊎ (getD word p 0 < fieldOf q .size)

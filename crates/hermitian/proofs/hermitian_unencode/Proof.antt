@@ -1,7 +1,7 @@
 -- `hermitian::hermitian_unencode` meets its contract.
 -- Assumes nothing.
 use borrow.Author.Needs.{needs}
-use Rattle.hermitian.proofs.Packed.{to-packed}
+use Rattle.code.proofs.Packed.{to-packed}
 use Rattle.hermitian.proofs.hermitian_unencode.Statement.{statement}
 use Rattle.hermitian.proofs.hermitian_unencode.Tie as tie
 

@@ -2,8 +2,8 @@
 use mathlib.Core.Path.{_≡_, ap}
 use Prim.Native.Nat.{_-_, _*_, _/_}
 use native.Mathlib.Omega.{arith}
-use borrow.Author.Needs.{needs}
 use Rattle.field.specs.declared.curve.Curve.{Curve}
+use Rattle.field.proofs.Curves.{short-curve}
 use Rattle.mend.specs.inner.Locating.{genus}
 use Rattle.mend.proofs.radius.Statement.{statement}
 use Rattle.mend.proofs.radius.Tie as tie
@@ -15,7 +15,7 @@ genus-is : (c : tie.After-at) → c .at .result .genus ≡ genus (c .before .arg
 genus-is c = ap (λ (v : Curve). v .genus) (c .at .ensures)
 
 at-requires : tie.Need-at-requires
-at-requires c κs = search needs
+at-requires c κs = short-curve _ (c .pre .0)
 
 sub-result : tie.Need-sub-result
 sub-result c = omega (arith, points (c .before), c .before .before .pre .1)

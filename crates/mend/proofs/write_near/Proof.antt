@@ -34,9 +34,11 @@ slice-aggregate-encode c = sym (lent-long 64 _ (short (c .before .before .before
 encode-requires : tie.Need-encode-requires
 encode-requires c κs =
     let s = c .before .before .before .before .before .before in
-    let x = s .args in
-    only-encodable (x .q) (x .m) (now (x .word)) (now (x .message)) (now (x .codeword)) (now (x .marks)) (s .pre .0) (now (x .candidate))
-    (s .pre .1 .1) _ (lent-long 64 _ (short s))
+    let x = s .args in (
+      only-encodable (x .q) (x .m) (now (x .word)) (now (x .message)) (now (x .codeword)) (now (x .marks)) (s .pre .0) (now (x .candidate))
+          (s .pre .1 .1) _ (lent-long 64 _ (short s)),
+      accepted s .mendable .curve,
+    )
 
 -- the word of the candidate
 word-is : (c : tie.After-encode) → let x = c .before .before .before .before .before .before .before .args in

@@ -7,7 +7,7 @@ use mathlib.Core.Path.{_≡_}
 use Prim.Native.Nat.{ℕ, _+_, _*_, _≤_, _<_}
 use lib.Dec.{eqb}
 use lib.ListN.{length, getD}
-use Rattle.field.specs.Curve.{IsCurve, curveOf}
+use Rattle.field.specs.Curve.{IsShort, curveOf}
 use Rattle.field.proofs.Fields.{fieldOf}
 use Rattle.poly.specs.inner.Linear.{dot}
 use Rattle.poly.specs.Messages.{Vector}
@@ -33,7 +33,7 @@ reach q m = radius q m + genus q
 
 -- a whole word that a call may mend: past the checks
 pub record Mendable (q m : ℕ) (word : List ℕ) : Type 0 where
-  pub curve : IsCurve q
+  pub curve : IsShort q
   pub order : m + 1 + genus q ≤ q * q * q
   pub long : length word ≡ q * q * q
   pub symbols : (p : ℕ) → p < q * q * q → getD word p 0 < q * q

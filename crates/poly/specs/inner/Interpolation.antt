@@ -1,9 +1,11 @@
 -- Interpolation of w polynomials at once. Their numbers are interleaved in one list, in rows of w: number i of polynomial j stands at
 -- w * i + j. What is given is in rows of 16, of which the first w count, and the others are 0.
 -- A column is a place x at which a polynomial is given or asked for; l and columns are lists of columns.
+use mathlib.Core.Bool.{cond}
 use mathlib.Core.Path.{_≡_}
 use mathlib.Core.List.{List}
 use Prim.Native.Nat.{ℕ, zero, suc, _+_, _-_, _*_, _/_, _≤_, _<_}
+use lib.Dec.{leb}
 use lib.ListN.{length, getD, take, drop}
 use Rattle.field.specs.Plus.{plus}
 use Rattle.field.specs.Field.{Field}
@@ -99,8 +101,8 @@ pub record Crossable (F : Field) (w : ℕ) (f g left right : List ℕ) (at : ℕ
 pub record Joinable (F : Field) (w : ℕ) (columns work : List ℕ) : Type 0 where
   pub columns-below : Below (F .size) columns
   pub work-below : Below (F .size) work
-  pub few : length columns ≤ 16
-  pub narrow : w ≤ 4
+  pub few : length columns ≤ 64
+  pub narrow : w ≤ 8
   pub long : length work ≡ 16 * length columns
   pub zeros : (t j : ℕ) → t < length columns → w ≤ j → j < 16 → getD work (16 * t + j) 0 ≡ 0
 
@@ -110,8 +112,9 @@ pub record Halves (F : Field) (w h c : ℕ) (f g work : List ℕ) : Type 0 where
   pub some : 1 ≤ h
   pub more : h < c
   pub even : c ≤ h + h + 1
-  pub few : c ≤ 16
-  pub narrow : w ≤ 4
+  pub smaller : h + h ≤ c
+  pub few : c ≤ 64
+  pub narrow : w ≤ 8
   pub long : length work ≡ 16 * c
   pub work-below : Below (F .size) work
   pub f-below : Below (F .size) f
@@ -121,6 +124,19 @@ pub record Halves (F : Field) (w h c : ℕ) (f g work : List ℕ) : Type 0 where
   pub degree : (i : ℕ) → h < i → getD f i 0 ≡ 0
   pub first : Padded (w * h) work
   pub others : Padded (w * (c - h)) (drop (16 * h) work)
+
+-- number p of the first n elements of src, moved on by i rows of w
+abbrev pub movedOn : ℕ → ℕ → List ℕ → ℕ → ℕ → ℕ
+movedOn w n src i p = cond (leb (w * i) p) (getD (take n src) (p - w * i) 0) 0
+
+-- number p of the first n elements of src, which are w polynomials, times the first k coefficients of f
+unfoldable pub convolved : Field → (w n : ℕ) → (f src : List ℕ) → ℕ → ℕ → ℕ
+convolved F w n f src k p = sum k (λ i. F .times (movedOn w n src i p) (getD f i 0))
+
+-- such a product is added
+pub record ProductAdded (F : Field) (w n : ℕ) (f src work₀ work : List ℕ) (k : ℕ) : Type 0 where
+  pub below : Below (F .size) work
+  pub is : (p : ℕ) → getD work p 0 ≡ plus (getD work₀ p 0) (convolved F w n f src k p)
 
 -- each half times the vanishing polynomial of the other, and both added
 pub record Combined (F : Field) (w h c : ℕ) (f g work₀ work : List ℕ) : Type 0 where
@@ -138,9 +154,16 @@ pub record Joined (F : Field) (w : ℕ) (columns work₀ work : List ℕ) : Type
 
 -- ---- interpolation
 
--- the values at the columns of the derivative of their vanishing polynomial
-pub record Slopes (F : Field) (columns slopes : List ℕ) : Type 0 where
-  pub at : (t : ℕ) → t < length columns → getD slopes t 0 ≡ others F columns t (getD columns t 0)
+-- the values of the derivative of the columns' vanishing polynomial, at the columns from number from up to number to
+pub record SlopesAt (F : Field) (columns : List ℕ) (from to : ℕ) (slopes : List ℕ) : Type 0 where
+  pub at : (t : ℕ) → from + t < to → getD slopes t 0 ≡ others F columns (from + t) (getD columns (from + t) 0)
+
+-- the first count rows, which belong to the columns from number from on, are divided, and the others are as they were
+pub record RowsDivided (F : Field) (columns : List ℕ) (from count : ℕ) (rows₀ rows : List ℕ) : Type 0 where
+  pub below : Below (F .size) rows
+  pub done : (j t : ℕ) → j < 16 → t < count
+      → interleaved 16 rows j t ≡ F .times (F .inverse (others F columns (from + t) (getD columns (from + t) 0))) (interleaved 16 rows₀ j t)
+  pub rest : (p : ℕ) → 16 * count ≤ p → getD rows p 0 ≡ getD rows₀ p 0
 
 -- the row of each column is divided
 pub record Divided (F : Field) (columns work₀ work : List ℕ) : Type 0 where

@@ -2,8 +2,7 @@
 -- coefficients become the first u numbers of a row; u is the number of values.
 use mathlib.Core.Path.{_≡_}
 use mathlib.Core.List.{List}
-use mathlib.Core.Logic.{_⊎_}
-use Prim.Native.Nat.{ℕ, _-_, _≤_, _<_}
+use Prim.Native.Nat.{ℕ, _+_, _-_, _≤_, _<_}
 use lib.ListN.{length}
 use Rattle.field.specs.Plus.{plus}
 use Rattle.field.specs.Field.{Field}
@@ -13,9 +12,9 @@ use Rattle.poly.specs.inner.Ranges.{Below}
 use Rattle.poly.specs.inner.Linear.{entry}
 use Rattle.poly.specs.inner.Polynomials.{value}
 
--- 2 or 4 values with their places, and room for as many coefficients
+-- an even number of values, sixteen at most, with their places, and room for as many coefficients
 pub record Summable (F : Field) (places values row : List ℕ) : Type 0 where
-  pub even : (length values ≡ 2) ⊎ (length values ≡ 4)
+  pub even : (h : ℕ) × (length values ≡ h + h) × (1 ≤ h) × (h ≤ 8)
   pub room : length values ≤ length row
   pub places-below : Below (F .size) places
   pub values-below : Below (F .size) values

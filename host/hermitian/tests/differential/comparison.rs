@@ -16,13 +16,22 @@ pub enum Entry {
     Unencode,
     Recover,
     Mend,
+    RecoverLong,
 }
 
 impl Entry {
-    pub const COUNT: usize = 4;
+    pub const COUNT: usize = 5;
 
-    pub const ALL: [Entry; Entry::COUNT] =
-        [Entry::Encode, Entry::Unencode, Entry::Recover, Entry::Mend];
+    pub const ALL: [Entry; Entry::COUNT] = [
+        Entry::Encode,
+        Entry::Unencode,
+        Entry::Recover,
+        Entry::Mend,
+        Entry::RecoverLong,
+    ];
+
+    /// The entries that name a curve. Only [`crate::long`] calls the other one.
+    pub const OF_CURVES: [Entry; 4] = [Entry::Encode, Entry::Unencode, Entry::Recover, Entry::Mend];
 
     pub fn name(self) -> &'static str {
         match self {
@@ -30,12 +39,13 @@ impl Entry {
             Entry::Unencode => "unencode",
             Entry::Recover => "recover",
             Entry::Mend => "mend",
+            Entry::RecoverLong => "long",
         }
     }
 
     pub fn output_count(self) -> usize {
         match self {
-            Entry::Encode | Entry::Unencode | Entry::Recover => 1,
+            Entry::Encode | Entry::Unencode | Entry::Recover | Entry::RecoverLong => 1,
             Entry::Mend => 3,
         }
     }
@@ -44,7 +54,7 @@ impl Entry {
     pub fn input_length(self, shape: Shape) -> usize {
         match self {
             Entry::Encode => shape.k,
-            Entry::Unencode | Entry::Recover | Entry::Mend => shape.n,
+            Entry::Unencode | Entry::Recover | Entry::Mend | Entry::RecoverLong => shape.n,
         }
     }
 
@@ -52,7 +62,7 @@ impl Entry {
     pub fn output_lengths(self, shape: Shape) -> Vec<usize> {
         match self {
             Entry::Encode => vec![shape.n],
-            Entry::Unencode | Entry::Recover => vec![shape.k],
+            Entry::Unencode | Entry::Recover | Entry::RecoverLong => vec![shape.k],
             Entry::Mend => vec![shape.k, shape.n, shape.n],
         }
     }

@@ -9,10 +9,10 @@ use crate::comparison::{compare, Call, Entry};
 use crate::tally::Tally;
 
 /// Whole, damaged and arbitrary words, and words with any number missing, at
-/// every order of both curves.
+/// every order of both curves of short blocks.
 pub fn at_every_order(generator: &mut Generator, rounds: usize) -> Tally {
     let mut tally = Tally::new();
-    for shape in Shape::every() {
+    for shape in Shape::every_short() {
         for _ in 0..rounds {
             well_formed_calls(shape, generator, &mut tally);
         }
@@ -78,7 +78,7 @@ fn every_small(generator: &mut Generator, entry: Entry, base: u32) -> Tally {
 }
 
 /// Every curve number with every order of 8 bits, and every order of 16 bits with
-/// both curves and with a number that names none.
+/// each curve and with a number that names none.
 pub fn every_curve_number_and_order(generator: &mut Generator) -> Tally {
     let mut tally = Tally::new();
     for q in 0..=255 {
@@ -86,7 +86,7 @@ pub fn every_curve_number_and_order(generator: &mut Generator) -> Tally {
             every_entry(q, m, generator, &mut tally);
         }
     }
-    for q in [2, 3, 4] {
+    for q in [2, 3, 4, 8] {
         for m in 256..=u16::MAX {
             every_entry(q, m, generator, &mut tally);
         }
@@ -97,7 +97,7 @@ pub fn every_curve_number_and_order(generator: &mut Generator) -> Tally {
 /// With lengths that fit some curve. Those of the strap are right if the order's
 /// low byte is 37.
 fn every_entry(q: u8, m: u16, generator: &mut Generator, tally: &mut Tally) {
-    for entry in Entry::ALL {
+    for entry in Entry::OF_CURVES {
         let mut length = |_| [8, 32, 64][generator.below(3)];
         let call = Call {
             entry,
@@ -113,8 +113,8 @@ fn every_entry(q: u8, m: u16, generator: &mut Generator, tally: &mut Tally) {
 /// Every byte at an arbitrary index, at every order, by every entry.
 pub fn every_byte(generator: &mut Generator) -> Tally {
     let mut tally = Tally::new();
-    for shape in Shape::every() {
-        for entry in Entry::ALL {
+    for shape in Shape::every_short() {
+        for entry in Entry::OF_CURVES {
             for value in shape.field_size..=255 {
                 let length = entry.input_length(shape);
                 let mut input = sample::symbols(generator, shape, length);
@@ -129,10 +129,14 @@ pub fn every_byte(generator: &mut Generator) -> Tally {
 /// One fault or several at once: the first check that applies must decide.
 pub fn faulty(generator: &mut Generator, rounds: usize) -> Tally {
     let mut tally = Tally::new();
-    let shapes: Vec<Shape> = Shape::every().collect();
+    let shapes: Vec<Shape> = Shape::every_short().collect();
     for round in 0..rounds {
         let shape = shapes[generator.below(shapes.len())];
-        let call = faulty_call(Entry::ALL[round % Entry::COUNT], shape, generator);
+        let call = faulty_call(
+            Entry::OF_CURVES[round % Entry::OF_CURVES.len()],
+            shape,
+            generator,
+        );
         compare(&call, generator, &mut tally);
     }
     tally

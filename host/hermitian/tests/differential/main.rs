@@ -4,6 +4,7 @@
 mod comparison;
 mod guarded;
 mod inputs;
+mod long;
 mod mending;
 mod tally;
 
@@ -16,12 +17,14 @@ use tally::Tally;
 
 const LEAST_CALLS: u64 = 200_000;
 const LEAST_MEND_CALLS: u64 = 100_000;
+const LEAST_LONG_RECOVERIES: u64 = 70_000;
 
 type Group = (&'static str, fn(&mut Generator) -> Tally);
 
 /// The mix follows what the reference costs: some microseconds at q = 2, up
-/// to some milliseconds at the high orders of q = 4.
-const GROUPS: [Group; 10] = [
+/// to some milliseconds at the high orders of q = 4, and up to 0.1 s for one
+/// elimination at q = 8.
+const GROUPS: [Group; 14] = [
     ("every order", |g| inputs::at_every_order(g, 12)),
     ("strap blocks", |g| inputs::strap_blocks(g, 3_250)),
     ("faulty calls", |g| inputs::faulty(g, 80_000)),
@@ -32,6 +35,10 @@ const GROUPS: [Group; 10] = [
     ("mending, every order", |g| mending::at_every_order(g, 6)),
     ("mending, strap blocks", |g| mending::strap_blocks(g, 4_500)),
     ("mending, small words", mending::every_small_word),
+    ("long, every order", long::at_every_order),
+    ("long, missing symbols", |g| long::missing_symbols(g, 5)),
+    ("long, faulty calls", |g| long::faulty(g, 9_000)),
+    ("long, every m", long::every_order_of_16_bits),
 ];
 
 #[test]
@@ -45,6 +52,7 @@ fn the_library_answers_as_the_reference() {
     say(&all.to_string());
     assert!(all.total() >= LEAST_CALLS);
     assert!(all.calls_of(Entry::Mend) >= LEAST_MEND_CALLS);
+    assert!(all.calls_of(Entry::RecoverLong) >= LEAST_LONG_RECOVERIES);
     every_answer_occurred(&all);
     every_order_was_accepted(&all);
 }
@@ -88,15 +96,18 @@ fn say(line: &str) {
 
 /// Refusals 6 and 7 are those of sessions, which have no C entry; 8 no longer
 /// occurs; a message always has a word; a whole word never leaves several
-/// messages; 11 and 12 are those of mending, which has no 9 and no 10.
+/// messages; 11 and 12 are those of mending, which has no 9 and no 10; 13 is the
+/// field's; 14 is that of long recovery, which names no curve and so has no 1.
 fn every_answer_occurred(tally: &Tally) {
     for entry in Entry::ALL {
-        for number in 0..=12 {
+        for number in 0..=14 {
             let possible = match number {
+                1 => entry != Entry::RecoverLong,
                 0..=5 => true,
-                9 => matches!(entry, Entry::Unencode | Entry::Recover),
-                10 => entry == Entry::Recover,
+                9 => !matches!(entry, Entry::Encode | Entry::Mend),
+                10 => matches!(entry, Entry::Recover | Entry::RecoverLong),
                 11 | 12 => entry == Entry::Mend,
+                14 => entry == Entry::RecoverLong,
                 _ => false,
             };
             let count = tally.of(entry, number);
@@ -105,12 +116,18 @@ fn every_answer_occurred(tally: &Tally) {
     }
 }
 
-/// From the order n - g on nothing is mended.
+/// From the order n - g on nothing is mended. Recovery of long blocks is a call of
+/// its own, and they aren't mended.
 fn every_order_was_accepted(tally: &Tally) {
     for entry in Entry::ALL {
-        for (q, n, g) in [(2, 8, 1), (4, 64, 6)] {
+        for (q, n, g) in [(2, 8, 1), (4, 64, 6), (8, 512, 28)] {
             for m in 0..n {
-                let possible = entry != Entry::Mend || m < n - g;
+                let possible = match entry {
+                    Entry::Encode | Entry::Unencode => true,
+                    Entry::Recover => q != 8,
+                    Entry::Mend => q != 8 && m < n - g,
+                    Entry::RecoverLong => q == 8,
+                };
                 let count = tally.accepted_at(entry, q, m);
                 assert_eq!(count > 0, possible, "{} at q = {q}, m = {m}", entry.name());
             }

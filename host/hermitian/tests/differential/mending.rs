@@ -13,7 +13,7 @@ use crate::tally::Tally;
 /// words that are no codeword with wrong symbols, at every order of both curves.
 pub fn at_every_order(generator: &mut Generator, rounds: usize) -> Tally {
     let mut tally = Tally::new();
-    for shape in Shape::every() {
+    for shape in Shape::every_short() {
         for _ in 0..rounds {
             for word in wrong_words(shape, generator) {
                 compare_mend(shape, word, generator, &mut tally);

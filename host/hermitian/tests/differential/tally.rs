@@ -4,30 +4,30 @@ use std::fmt;
 
 use crate::comparison::Entry;
 
-const NUMBERS: usize = 13;
-const ORDERS: usize = 64;
+const NUMBERS: usize = 15;
+const CURVES: usize = 3;
+const ORDERS: usize = 512;
 
 /// Answers by entry and refusal number, 0 for an accepted call.
 #[derive(Clone)]
 pub struct Tally {
     answers: [[u64; NUMBERS]; Entry::COUNT],
-    /// Accepted calls by entry and order, for q = 2 and for q = 4.
-    accepted: [[[u64; ORDERS]; 2]; Entry::COUNT],
+    /// Accepted calls by entry and order, for q = 2, 4 and 8.
+    accepted: [[[u64; ORDERS]; CURVES]; Entry::COUNT],
 }
 
 impl Tally {
     pub fn new() -> Tally {
         Tally {
             answers: [[0; NUMBERS]; Entry::COUNT],
-            accepted: [[[0; ORDERS]; 2]; Entry::COUNT],
+            accepted: [[[0; ORDERS]; CURVES]; Entry::COUNT],
         }
     }
 
     pub fn count(&mut self, entry: Entry, q: u8, m: u16, number: u8) {
         self.answers[entry as usize][usize::from(number)] += 1;
         if number == 0 {
-            let curve = usize::from(q == 4);
-            self.accepted[entry as usize][curve][usize::from(m)] += 1;
+            self.accepted[entry as usize][curve_index(q)][usize::from(m)] += 1;
         }
     }
 
@@ -52,11 +52,21 @@ impl Tally {
     }
 
     pub fn accepted_at(&self, entry: Entry, q: u8, m: u16) -> u64 {
-        self.accepted[entry as usize][usize::from(q == 4)][usize::from(m)]
+        self.accepted[entry as usize][curve_index(q)][usize::from(m)]
     }
 
     pub fn total(&self) -> u64 {
         self.answers.as_flattened().iter().sum()
+    }
+}
+
+/// Of a curve number that an accepted call had.
+fn curve_index(q: u8) -> usize {
+    match q {
+        2 => 0,
+        4 => 1,
+        8 => 2,
+        _ => panic!("a call with q = {q} was accepted"),
     }
 }
 

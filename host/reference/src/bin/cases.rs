@@ -7,6 +7,7 @@ use reference::curve::Curve;
 use reference::file_pair;
 use reference::generator::Generator;
 use reference::job_sample::job_cases;
+use reference::long_curve_sample::long_curve_cases;
 use reference::mend_sample::mend_cases;
 use reference::sample::{self, Shape, BAD_CURVES, BAD_ORDERS, ROUNDS};
 use reference::session::{Session, CONFLICT, PLACE_COUNT};
@@ -24,9 +25,18 @@ fn main() -> ExitCode {
     file_pair::write_to_arguments("cases CASE_FILE EXPECTED_FILE", &records, &expected)
 }
 
+/// Those from before request T-09 come first: that they and their lines stay as they
+/// were, but for the calls that take q = 8 now, shows that short blocks give what they
+/// gave.
+fn all_cases() -> Vec<Case> {
+    let mut cases = cases_before_long_blocks();
+    cases.extend(long_curve_cases());
+    cases
+}
+
 /// Those from before request T-08 come first: that they and their lines stay as they
 /// were shows that calls with numbers of 8 bits give what they gave.
-fn all_cases() -> Vec<Case> {
+fn cases_before_long_blocks() -> Vec<Case> {
     let mut cases = eight_bit_cases();
     cases.extend(sixteen_bit_cases());
     cases
@@ -40,7 +50,7 @@ fn eight_bit_cases() -> Vec<Case> {
     builder.before_any_opening();
     builder.field_cases();
     builder.bad_curves_and_orders();
-    for shape in Shape::every() {
+    for shape in Shape::every_short() {
         builder.encode_cases(shape);
         builder.unencode_cases(shape);
         builder.recover_cases(shape);
@@ -63,7 +73,7 @@ struct Builder {
 /// Cases of the field.
 impl Builder {
     fn field_cases(&mut self) {
-        for curve in Curve::BOTH {
+        for curve in Curve::SHORT {
             let size = curve.field().size();
             for a in 0..size {
                 (0..size).for_each(|b| self.field_pair(curve.q(), a, b));
@@ -481,7 +491,7 @@ impl Builder {
         for shape in Shape::every_order(Curve::Q_IS_2) {
             self.arbitrary_bytes_after_the_word(shape);
         }
-        for curve in Curve::BOTH {
+        for curve in Curve::SHORT {
             for m in [3, 7] {
                 self.stored_values(Shape::of(curve, m));
             }
@@ -608,9 +618,9 @@ mod tests {
     }
 
     #[test]
-    fn there_are_about_24000_cases_and_each_fits_its_record() {
+    fn there_are_about_27000_cases_and_each_fits_its_record() {
         let cases = all_cases();
-        assert!((23000..=25000).contains(&cases.len()), "{}", cases.len());
+        assert!((26000..=28000).contains(&cases.len()), "{}", cases.len());
         for case in &cases {
             let record: [u8; RECORD_LENGTH] = case.to_record();
             assert_eq!(&Case::from_record(&record), case);
@@ -624,11 +634,42 @@ mod tests {
         let eight_bit = eight_bit_cases();
         assert_eq!(eight_bit.len(), 20_067);
         assert_eq!(all_cases()[..20_067], eight_bit);
-        let mut runner = Runner::default();
-        let lines: String = eight_bit.iter().map(|case| runner.run(case)).collect();
-        let records: Vec<u8> = eight_bit.iter().flat_map(Case::to_record).collect();
-        assert_eq!(checksum(&records), 0x58D0_75EB_720B_C1DE);
+        assert_eq!(checksum(&records(&eight_bit)), 0x58D0_75EB_720B_C1DE);
+        let lines = lines_before_long_blocks(&eight_bit);
         assert_eq!(checksum(lines.as_bytes()), 0xEB97_CD76_D8CA_B4D7);
+    }
+
+    /// The cases from before request T-09 and their lines, by number and checksum.
+    #[test]
+    fn the_cases_before_long_blocks_come_first_and_are_unchanged() {
+        let before = cases_before_long_blocks();
+        assert_eq!(before.len(), 24_325);
+        assert_eq!(all_cases()[..24_325], before);
+        assert_eq!(checksum(&records(&before)), 0x0C23_295B_7637_8017);
+        let lines = lines_before_long_blocks(&before);
+        assert_eq!(checksum(lines.as_bytes()), 0x0E89_E96F_2513_BAD9);
+        let mut runner = Runner::default();
+        let now: String = before.iter().map(|case| runner.run(case)).collect();
+        let changed = lines.lines().zip(now.lines()).filter(|(a, b)| a != b);
+        assert_eq!(changed.count(), 40);
+    }
+
+    fn records(cases: &[Case]) -> Vec<u8> {
+        cases.iter().flat_map(Case::to_record).collect()
+    }
+
+    /// The lines as they were when 8 named no curve: field operations, encode and
+    /// unencode, the calls that take it now, get 9 in its place, a number that isn't
+    /// in their lines. All others have 8 as they had.
+    fn lines_before_long_blocks(cases: &[Case]) -> String {
+        let mut runner = Runner::default();
+        let line = |case: &Case| {
+            let takes_8_now = case.q == 8 && b"+*ieu".contains(&case.op);
+            let q = if takes_8_now { 9 } else { case.q };
+            let case = case.clone();
+            runner.run(&Case { q, ..case })
+        };
+        cases.iter().map(line).collect()
     }
 
     /// FNV-1a of 64 bits.

@@ -62,7 +62,7 @@ impl Builder {
             self.every_kind(Numbers::of(shape));
             self.call(5, strap.k);
         }
-        let every_order = Shape::every().map(Numbers::of);
+        let every_order = Shape::every_short().map(Numbers::of);
         let bad_curves = BAD_CURVES.into_iter().flat_map(|q| [(q, 3), (q, 255)]);
         let bad = bad_curves.chain(BAD_ORDERS);
         let bad = bad.map(|(q, m)| Numbers::bad(q, m)).flat_map(|n| [n; 2]);
@@ -72,7 +72,7 @@ impl Builder {
         for _ in 0..ARBITRARY_RECORDS {
             self.arbitrary_record();
         }
-        for shape in Shape::every() {
+        for shape in Shape::every_short() {
             self.whole_word_in_four_calls(shape);
         }
         self.call(0, strap.k);

@@ -108,7 +108,7 @@ impl Builder {
     }
 
     pub(super) fn bad_orders(&mut self) {
-        for curve in Curve::BOTH {
+        for curve in Curve::SHORT {
             let shape = Shape::of(curve, 3);
             let n = shape.n as u16;
             for order in [n, n + 1, 255] {

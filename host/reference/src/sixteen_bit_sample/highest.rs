@@ -9,7 +9,7 @@ use crate::sample::{self, Shape};
 
 impl Builder {
     pub(super) fn highest_second_numbers(&mut self) {
-        for curve in Curve::BOTH {
+        for curve in Curve::SHORT {
             let n = curve.point_count();
             let highest = Shape::of(curve, n as u16 - 1);
             let highest_mended = Shape::of(curve, (n - 1 - curve.genus()) as u16);

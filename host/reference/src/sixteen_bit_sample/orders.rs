@@ -20,7 +20,7 @@ struct Refused {
 
 impl Refused {
     fn of(q: u8, m: u16) -> Refused {
-        let curve = Curve::named(q).unwrap_or(Curve::Q_IS_4);
+        let curve = Curve::short_named(q).unwrap_or(Curve::Q_IS_4);
         let low_byte = m % 256;
         let is_order = usize::from(low_byte) < curve.point_count();
         let order = if is_order { low_byte } else { 3 };
@@ -71,7 +71,7 @@ impl Fault {
 impl Builder {
     /// The highest one and every other one below it with further faults too.
     pub(super) fn orders_too_high(&mut self) {
-        for curve in Curve::BOTH {
+        for curve in Curve::SHORT {
             let orders = sample::numbers_too_high(curve);
             for (number, &m) in orders.iter().rev().enumerate() {
                 let refused = Refused::of(curve.q(), m);

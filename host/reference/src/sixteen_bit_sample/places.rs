@@ -88,7 +88,7 @@ impl Builder {
     }
 
     pub(super) fn next_places_too_high(&mut self) {
-        for curve in Curve::BOTH {
+        for curve in Curve::SHORT {
             let n = curve.point_count() as u16;
             let next_places = [256, 256 + n - 1, 256 + n, 0xFF00, 0xFF00 + n, u16::MAX];
             for m in [3, n / 2, n - 1] {

@@ -4,7 +4,6 @@ use mathlib.Core.Path.{_≡_, refl, sym, _∙_, subst}
 use Prim.Native.Nat.{_+_, _-_, _*_, _≤_, _<_}
 use native.Mathlib.Nat.{mul-zero}
 use native.Mathlib.Omega.{arith}
-use borrow.Author.Needs.{needs}
 use borrow.Rule.Slice.PartMut.{same-len-mid, mid-len}
 use denote.Ref.{now}
 use lib.ListN.{length, getD}
@@ -18,11 +17,11 @@ use Rattle.code.proofs.encoding.evaluate_columns.Statement.{statement}
 use Rattle.code.proofs.encoding.evaluate_columns.Tie as tie
 
 abbrev Inv-loop : tie.InvT-loop
-Inv-loop q columns rows word₀ width c all t₀ at₀ word t at =
+Inv-loop q all columns rows word₀ width c t₀ at₀ word t at =
     (t ≤ length columns) × (at ≡ q * t) × (length word ≡ length word₀) × Blocks q (columnValue q columns rows) word t
 
 abbrev μ-loop : tie.MeasureT-loop
-μ-loop q columns rows word₀ width c all t₀ at₀ word t at = length columns - t
+μ-loop q all columns rows word₀ width c t₀ at₀ word t at = length columns - t
 
 -- the column's part is within the word, and its y are within all
 fits : (c : tie.In-loop Inv-loop μ-loop)
@@ -30,21 +29,22 @@ fits : (c : tie.In-loop Inv-loop μ-loop)
 fits c =
     let s = c .before .before .before .before .before .before in
     let l = c .before .loop in
-    omega (arith, l .inv .1, l .inv .2, s .pre .2, block-fits (s .args .q) (l .t) (length (now (s .args .columns))) (omega arith))
+    omega (arith, l .inv .1, l .inv .2, s .pre .0 .2, block-fits (s .args .q) (l .t) (length (now (s .args .columns))) (omega arith))
 
 column-small : (c : tie.In-loop Inv-loop μ-loop)
     → let x = c .before .before .before .before .before .before .args in getD (now (x .columns)) (c .before .loop .t) 0 < x .q * x .q
-column-small c = c .before .before .before .before .before .before .pre .0 .over .small (c .before .loop .t) (omega arith)
+column-small c =
+    let s = c .before .before .before .before .before .before in
+    omega (arith, s .pre .0 .0 .columns-below (c .before .loop .t), sizes (s .args .q) (s .pre .0 .0 .curve) .size)
 
-column-fits : (c : tie.In-loop Inv-loop μ-loop)
-    → let x = c .before .before .before .before .before .before .args in x .q * getD (now (x .columns)) (c .before .loop .t) 0 + 0 < 64
+column-fits : (c : tie.In-loop Inv-loop μ-loop) → let x = c .before .before .before .before .before .before .args in
+    (x .q * getD (now (x .columns)) (c .before .loop .t) 0 + 16 ≤ length (now (x .all)))
+    × (x .q * getD (now (x .columns)) (c .before .loop .t) 0 ≤ 512)
 column-fits c =
     let s = c .before .before .before .before .before .before in
-    table-fits (s .args .q) (s .pre .0 .over .curve) (getD (now (s .args .columns)) (c .before .loop .t) 0) 0 (column-small c)
-    (omega (arith, sizes (s .args .q) (s .pre .0 .over .curve) .low))
-
-padded-ys-requires : tie.Need-padded-ys-requires Inv-loop μ-loop
-padded-ys-requires c κs = c .before .before .before .pre .0 .over .curve
+    let z = sizes (s .args .q) (s .pre .0 .0 .curve) in
+    let l = table-fits (s .args .q) (s .pre .0 .0 .curve) (getD (now (s .args .columns)) (c .before .loop .t) 0) 0 (column-small c) (omega (arith, z .low)) in
+    (omega (arith, l, s .pre .1 .long), omega (arith, l, z .points))
 
 loop-holds : tie.Need-loop-holds Inv-loop μ-loop
 loop-holds c =
@@ -55,19 +55,16 @@ shared-slice-read-from : tie.Need-shared-slice-read-from Inv-loop μ-loop
 shared-slice-read-from c = omega arith
 
 cast-from : tie.Need-cast-from Inv-loop μ-loop
-cast-from c = omega (arith, c .shared-slice-known3 .given (c .before .before .loop .t))
+cast-from c = omega (arith, c .shared-slice-known4 .given (c .before .before .loop .t))
 
 mul-from : tie.Need-mul-from Inv-loop μ-loop
-mul-from c = omega (arith, column-fits (c .before))
+mul-from c = omega (arith, column-fits (c .before) .1)
 
 add-end : tie.Need-add-end Inv-loop μ-loop
 add-end c = omega (arith, fits (c .before))
 
-slice-aggregate-take : tie.Need-slice-aggregate-take Inv-loop μ-loop
-slice-aggregate-take c = search needs
-
 take-requires : tie.Need-take-requires Inv-loop μ-loop
-take-requires c κs = omega (arith, column-fits (c .before .before), c .before .before .before .before .padded-ys .ensures .long)
+take-requires c κs = column-fits (c .before) .0
 
 sub-evaluate-column : tie.Need-sub-evaluate-column Inv-loop μ-loop
 sub-evaluate-column c = omega arith
@@ -76,23 +73,22 @@ part-evaluate-column-start : tie.Need-part-evaluate-column-start Inv-loop μ-loo
 part-evaluate-column-start c = omega arith
 
 part-evaluate-column-end : tie.Need-part-evaluate-column-end Inv-loop μ-loop
-part-evaluate-column-end c = omega (arith, fits (c .before .before .before .before))
+part-evaluate-column-end c = omega (arith, fits (c .before .before .before))
 
 evaluate-column-requires : tie.Need-evaluate-column-requires Inv-loop μ-loop
 evaluate-column-requires c κs =
-    let s = c .before .before .before .before .before .before .before .before .before .before .before in
+    let s = c .before .before .before .before .before .before .before .before .before .before in
     let x = s .args in
-    let l = c .before .before .before .before .before .before .loop in
-    let all = c .before .before .before .before .before .before .before .padded-ys in (
+    let l = c .before .before .before .before .before .loop in (
       (
-        s .pre .0 .over .curve,
-        taken-below (x .q) (getD (now (x .columns)) (l .t) 0) _ _ (all .ensures) (c .before .before .take .ensures),
-        s .pre .0 .symbols,
+        s .pre .0 .0 .curve,
+        taken-below (x .q) (getD (now (x .columns)) (l .t) 0) _ _ (s .pre .1) (c .before .before .take .ensures),
+        s .pre .0 .0 .symbols,
       ),
       (
-        omega (arith, s .pre .0 .few, c .before .before .before .before .before .loop-test .taken),
-        s .pre .1,
-        mid-len (l .at) (l .at + x .q) (l .word) (fits (c .before .before .before .before .before)) ∙ omega arith,
+        omega (arith, s .pre .0 .0 .few, c .before .before .before .before .loop-test .taken),
+        s .pre .0 .1,
+        mid-len (l .at) (l .at + x .q) (l .word) (fits (c .before .before .before .before)) ∙ omega arith,
       ),
     )
 
@@ -104,11 +100,10 @@ loop-less c = omega arith
 
 loop-again : tie.Need-loop-again Inv-loop μ-loop
 loop-again c =
-    let s = c .before .before .before .before .before .before .before .before .before .before .before .before .before .before in
+    let s = c .before .before .before .before .before .before .before .before .before .before .before .before .before in
     let x = s .args in
-    let l = c .before .before .before .before .before .before .before .before .before .loop in
-    let k = c .before .before .before .before .before .before .before .before in
-    let all = c .before .before .before .before .before .before .before .before .before .before .padded-ys in
+    let l = c .before .before .before .before .before .before .before .before .loop in
+    let k = c .before .before .before .before .before .before .before in
     let ys = c .before .before .before .before .before .take in
     let e = c .before .before .evaluate-column in
     let last = e .last .1 .1 .1 .1 .0 in (
@@ -117,8 +112,7 @@ loop-again c =
       same-len-mid (l .at) (l .at + x .q - l .at) (l .word) last (e .kept .1 .1 .1 .1 .0) ∙ l .inv .2,
       columns-turn (x .q) (now (x .columns)) (now (x .rows)) (l .word) (ys .result) last (l .t) (l .at) (l .inv .3) (l .inv .1) (fits k)
           (e .kept .1 .1 .1 .1 .0 ∙ mid-len (l .at) (l .at + x .q) (l .word) (fits k) ∙ omega arith) (e .ensures)
-          (taken-at (x .q) (getD (now (x .columns)) (l .t) 0) (all .result) (ys .result) (all .ensures) (ys .ensures)
-          (s .pre .0 .over .curve) (column-small k)),
+          (taken-at (x .q) (getD (now (x .columns)) (l .t) 0) (now (x .all)) (ys .result) (s .pre .1) (ys .ensures) (s .pre .0 .0 .curve) (column-small k)),
     )
 
 same-length : tie.Need-same-length Inv-loop μ-loop
@@ -137,13 +131,11 @@ evaluate-columns-spec =
     (tie.spec
     Inv-loop
     μ-loop
-    padded-ys-requires
     loop-holds
     shared-slice-read-from
     cast-from
     mul-from
     add-end
-    slice-aggregate-take
     take-requires
     sub-evaluate-column
     part-evaluate-column-start

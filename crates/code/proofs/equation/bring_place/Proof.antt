@@ -7,7 +7,7 @@ use borrow.Author.Needs.{needs}
 use denote.Ref.{now}
 use lib.ListN.{length, getD}
 use Rattle.field.proofs.Fields.{fieldOf}
-use Rattle.field.proofs.Curves.{sizes}
+use Rattle.field.proofs.Curves.{sizes, short-sizes, short-not-long}
 use Rattle.poly.specs.inner.Linear.{entry}
 use Rattle.poly.specs.inner.Systems.{WellFormed, Equation, Brought}
 use Rattle.code.specs.Points.{ysOf}
@@ -20,13 +20,17 @@ use Rattle.code.proofs.equation.bring_place.Tie as tie
 
 -- the point of the place
 point : (c : tie.After-ys) → let x = c .before .before .before .before .before .before .args in let d = c .before .before .divide .result in
-    (d .whole < length (now (x .columns))) × (x .q * getD (now (x .columns)) (d .whole) 0 + d .rest < 64)
+    (d .whole < length (now (x .columns))) × (x .q * getD (now (x .columns)) (d .whole) 0 + d .rest < x .q * x .q * x .q)
     × (getD (c .ys .result) (x .q * getD (now (x .columns)) (d .whole) 0 + d .rest) 0
     ≡ getD (ysOf (x .q) (getD (now (x .columns)) (x .p / x .q) 0)) (x .p % x .q) 0)
 point c =
     let s = c .before .before .before .before .before .before in
     place-point (s .args .q) (now (s .args .columns)) (s .pre .0 .0) (s .args .p) _ _ (c .before .before .divide .ensures) (s .pre .0 .1)
     (c .ys .result) (c .ys .ensures)
+
+within : (c : tie.After-ys) → let x = c .before .before .before .before .before .before .args in
+    x .q * getD (now (x .columns)) (c .before .before .divide .result .whole) 0 + c .before .before .divide .result .rest < 64
+within c = let s = c .before .before .before .before .before .before in omega (arith, point c .1, short-sizes (s .args .q) (s .pre .0 .5) .points)
 
 -- its x is one of the columns
 x-is : (c : tie.After-ys) → let x = c .before .before .before .before .before .before .args in
@@ -46,19 +50,19 @@ shared-slice-read-x c =
     place-column (s .args .q) (s .pre .0 .0 .curve) (length (now (s .args .columns))) (s .args .p) _ _ (c .before .divide .ensures) (s .pre .0 .1)
 
 ys-requires : tie.Need-ys-requires
-ys-requires c κs = c .before .before .before .before .before .pre .0 .0 .curve
+ys-requires c κs = c .before .before .before .before .before .pre .0 .5
 
 cast-at : tie.Need-cast-at
 cast-at c = omega (arith, c .before .shared-slice-known3 .given (c .before .before .divide .result .whole))
 
 mul-at : tie.Need-mul-at
-mul-at c = omega (arith, point c .1)
+mul-at c = omega (arith, within c)
 
 add-at : tie.Need-add-at
-add-at c = omega (arith, point (c .before) .1)
+add-at c = omega (arith, within (c .before))
 
 array-read-y : tie.Need-array-read-y
-array-read-y c = point (c .before) .1
+array-read-y c = within (c .before)
 
 slice-aggregate-write-equation : tie.Need-slice-aggregate-write-equation
 slice-aggregate-write-equation c = search needs
@@ -70,7 +74,7 @@ write-equation-requires c κs =
     let y = c .before .before in
     let z = sizes q (s .pre .0 .0 .curve) in
     let small = x-lt y in (
-      (s .pre .0 .0 .curve, s .pre .0 .2, s .pre .0 .3, s .pre .1 .room),
+      (s .pre .0 .5, s .pre .0 .2, s .pre .0 .3, s .pre .1 .room),
       (omega (arith, z .size), rw (point y .2) (ys-below q (s .pre .0 .0 .curve) _ (rw (x-is y) at small) (s .args .p % q))),
     )
 
@@ -93,6 +97,7 @@ bring-in-requires c κs =
         subst (λ (k : ℕ). WellFormed (fieldOf (x .q)) 64 k (now (x .work))) is-k (s .pre .1),
         subst (λ (k : ℕ). Equation (fieldOf (x .q)) k (e .last .1 .1 .1 .1 .1 .1 .0)) is-k
             (equation-formed (x .q) (now (x .columns)) (x .m) (x .p) (x .s) _ _ _ (e .ensures) (x-is y) (point y .2) (s .pre .0 .4) long),
+        short-not-long (x .q) (s .pre .0 .5),
       ),
       (omega arith, omega (arith, is-k, room), omega (arith, is-k, room, e .kept .1 .1 .1 .1 .1 .1 .0)),
     )

@@ -7,7 +7,7 @@ use borrow.Author.Needs.{needs}
 use borrow.Rule.Slice.PartMut.{same-len-mid, mid-len}
 use denote.Ref.{now}
 use lib.ListN.{length}
-use Rattle.field.proofs.Curves.{sizes}
+use Rattle.field.proofs.Curves.{short-sizes, short-not-long}
 use Rattle.poly.specs.inner.Ranges.{Blocks}
 use Rattle.poly.proofs.Blocks.{blocks-none, block-start, block-fits}
 use Rattle.code.specs.inner.Recovering.{termAt}
@@ -66,7 +66,7 @@ copy-requires c κs =
     let s = c .before .before .before .before .before .before .before .before in
     let l = c .before .before .before .loop in
     let e = l .at + s .args .q in
-    (omega (arith, l .inv .2 .long, sizes (s .args .q) (s .pre .0 .0) .high), omega (arith, mid-len (l .at) e (l .grid) (fits (c .before .before))))
+    (omega (arith, l .inv .2 .long, short-sizes (s .args .q) (s .pre .0 .0) .high), omega (arith, mid-len (l .at) e (l .grid) (fits (c .before .before))))
 
 slice-aggregate-scale : tie.Need-slice-aggregate-scale Inv-loop μ-loop
 slice-aggregate-scale c = search needs
@@ -75,7 +75,7 @@ scale-requires : tie.Need-scale-requires Inv-loop μ-loop
 scale-requires c κs =
     let s = c .before .before .before .before .before .before .before .before .before .before .before .before in
     let r = c .before .before .before .before .before .before .before .loop .inv .2 in
-    (omega (arith, r .long, sizes (s .args .q) (s .pre .0 .0) .high), (s .pre .1 .0, λ j l. r .symbols j))
+    (omega (arith, r .long, short-sizes (s .args .q) (s .pre .0 .0) .high), (s .pre .1 .0, (λ j l. r .symbols j), short-not-long (s .args .q) (s .pre .0 .0)))
 
 add-i : tie.Need-add-i Inv-loop μ-loop
 add-i c = omega arith

@@ -34,7 +34,7 @@ returns c =
 bring-place-requires : tie.Need-bring-place-requires
 bring-place-requires c κs =
     let h = c .before .before .before .before .before .pre in
-    ((h .0 .0, h .0 .1, h .0 .2, h .0 .3, h .1 .0 (c .before .if1 .left)), h .1 .1)
+    ((h .0 .0, h .0 .1, h .0 .2, h .0 .3, h .1 .0 (c .before .if1 .left), h .0 .5), h .1 .1)
 
 enum-told : tie.Need-enum-told
 enum-told c = search needs

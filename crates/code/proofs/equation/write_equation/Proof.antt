@@ -8,7 +8,7 @@ use native.Mathlib.Omega.{arith}
 use borrow.Author.Needs.{needs}
 use denote.Ref.{now}
 use lib.ListN.{length, set}
-use Rattle.field.proofs.Curves.{sizes}
+use Rattle.field.proofs.Curves.{short-sizes, short-curve}
 use Rattle.poly.specs.inner.Ranges.{Blocks}
 use Rattle.code.specs.inner.Recovering.{termAt, EquationAt}
 use Rattle.code.proofs.GridEntries.{length-entries}
@@ -17,7 +17,7 @@ use Rattle.code.proofs.equation.write_equation.Statement.{statement}
 use Rattle.code.proofs.equation.write_equation.Tie as tie
 
 divide-requires : tie.Need-divide-requires
-divide-requires c κs = search needs
+divide-requires c κs = short-curve _ (c .before .before .pre .0 .0)
 
 add-n : tie.Need-add-n
 add-n c =
@@ -44,7 +44,7 @@ gather-listed-requires c κs =
     let g = c .before .before .before .monomials in (
       omega (arith, ap length (s .pre .0 .2), length-entries (x .q) (x .m), s .pre .0 .3),
       entries-fit (x .q) (x .x) (x .y) (s .pre .0 .0) (x .m) (now (x .entries)) (g .last .1 .1 .1 .1 .0) (s .pre .0 .2)
-          (omega (arith, s .pre .0 .1, sizes (x .q) (s .pre .0 .0) .high, g .kept .1 .1 .1 .1 .0)),
+          (omega (arith, s .pre .0 .1, short-sizes (x .q) (s .pre .0 .0) .high, g .kept .1 .1 .1 .1 .0)),
     )
 
 slice-write-row : tie.Need-slice-write-row

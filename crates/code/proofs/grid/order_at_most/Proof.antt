@@ -50,7 +50,7 @@ x-small c =
     )
 
 y-small : (c : tie.After-divide Inv-loop μ-loop)
-    → c .before .before .before .before .before .before .at .result .«weight_y» * c .divide .result .rest ≤ 20
+    → c .before .before .before .before .before .before .at .result .«weight_y» * c .divide .result .rest ≤ 72
 y-small c = let s = c .before .before .before .before .before .before .before .before in
     omega (arith, in-y c, small-weight (s .args .q) (s .pre .0) _ _ (c .divide .ensures .1))
 

@@ -11,7 +11,7 @@ use Rattle.code.proofs.indicator.x_powers_4.Tie as tie
 
 returns : tie.Need-returns
 unfolding times power every
-returns c = x-powers-table 4 _ refl (omega arith) tt tt
+returns c = x-powers-table 4 256 _ refl (omega arith) tt tt
 
 pub x-powers-4-spec : {M : Type 1} → statement M
 x-powers-4-spec = tie.close (tie.spec returns)

@@ -13,7 +13,7 @@ use Rattle.code.proofs.indicator.y_factors_2.Tie as tie
 
 returns : tie.Need-returns
 unfolding times power plus every indicator
-returns c = y-factors-table 2 _ refl (omega arith) tt tt
+returns c = y-factors-table 2 256 _ refl (omega arith) tt tt
 
 pub y-factors-2-spec : {M : Type 1} → statement M
 y-factors-2-spec = tie.close (tie.spec returns)

@@ -13,7 +13,7 @@ use Rattle.code.proofs.indicator.y_factors_4.Tie as tie
 
 returns : tie.Need-returns
 unfolding times power plus every indicator
-returns c = y-factors-table 4 _ refl (omega arith) tt tt
+returns c = y-factors-table 4 256 _ refl (omega arith) tt tt
 
 pub y-factors-4-spec : {M : Type 1} → statement M
 y-factors-4-spec = tie.close (tie.spec returns)

@@ -5,6 +5,7 @@ use mathlib.Core.Path.{ap, _∙_}
 use Prim.Native.Nat.{ℕ}
 use native.Mathlib.Omega.{arith}
 use lib.ListN.{getD}
+use Rattle.field.proofs.Curves.{short-sizes}
 use Rattle.poly.proofs.Entries.{padded}
 use Rattle.code.proofs.YsTables.{padded-table}
 use borrow.Author.Needs.{needs}
@@ -27,8 +28,9 @@ returns : tie.Need-returns
 returns c =
     let e = c .before .copy in
     let y = c .before .before .before .before .ys in
-    padded-table (c .before .before .before .before .before .args .q) _ (e .last .1 .1 .0) (y .ensures) (e .kept .1 .1 .0)
-    (λ p. ap (λ (x : List ℕ). getD x p 0) (e .ensures) ∙ padded 80 64 _ (omega (arith, y .ensures .long)) (omega arith) p)
+    let s = c .before .before .before .before .before in
+    padded-table (s .args .q) _ (e .last .1 .1 .0) (y .ensures) (omega (arith, e .kept .1 .1 .0, short-sizes (s .args .q) (s .pre) .points))
+    (λ p. ap (λ (x : List ℕ). getD x p 0) (e .ensures) ∙ padded 80 64 _ (omega arith) (omega arith) p)
 
 pub padded-ys-spec : {M : Type 1} → statement M
 padded-ys-spec =

@@ -2,19 +2,20 @@
 -- Assumes nothing.
 use mathlib.Core.Logic.{inl}
 use mathlib.Core.Path.{refl}
+use native.Mathlib.Omega.{arith}
 use Rattle.field.specs.Plus.{plus}
 use Rattle.field.specs.Power.{power}
 use Rattle.field.specs.Product.{times}
 use Rattle.field.specs.Tests.{every}
 use Rattle.code.specs.Passing.{passing}
 use Rattle.code.specs.Points.{ysOf}
-use Rattle.code.proofs.YsTables.{ys-table}
+use Rattle.code.proofs.YsTables.{yAt, ys-table}
 use Rattle.code.proofs.point.ys_2.Statement.{statement}
 use Rattle.code.proofs.point.ys_2.Tie as tie
 
 returns : tie.Need-returns
 unfolding times power plus ysOf passing every
-returns c = ys-table 2 (inl refl) _ refl tt tt
+returns c = ys-table 2 (inl refl) 64 (yAt 2) (λ p l. refl) (omega arith) _ refl tt tt
 
 pub ys-2-spec : {M : Type 1} → statement M
 ys-2-spec = tie.close (tie.spec returns)

@@ -1,35 +1,32 @@
 -- `code::recovery::eliminate` meets its contract: the entries of a weight above m are marked, and the vectors taken out at these.
 -- Assumes nothing.
-use mathlib.Core.Path.{_∙_, sym}
-use borrow.Author.Needs.{needs}
+use mathlib.Core.Path.{sym, ap, _∙_, subst}
+use Prim.Native.Nat.{ℕ, _*_}
 use denote.Ref.{now}
-use Rattle.code.proofs.HeavyMarks.{high-long, heavy-eliminated, zero-table}
+use lib.ListN.{length}
+use Rattle.field.specs.inner.Halves.{halfOf}
+use Rattle.field.proofs.Fields.{fieldOf}
+use Rattle.poly.specs.inner.Eliminating.{Table}
+use Rattle.code.proofs.HeavyMarks.{high-long, heavy-eliminated}
+use borrow.Author.Needs.{needs}
 use Rattle.code.proofs.recovery.eliminate.Statement.{statement}
 use Rattle.code.proofs.recovery.eliminate.Tie as tie
-
-slice-aggregate-mark : tie.Need-slice-aggregate-mark
-slice-aggregate-mark c = search needs
 
 mark-requires : tie.Need-mark-requires
 mark-requires c κs = search needs
 
-slice-aggregate-eliminate : tie.Need-slice-aggregate-eliminate
-slice-aggregate-eliminate c = search needs
-
-slice-aggregate-eliminate-2 : tie.Need-slice-aggregate-eliminate-2
-slice-aggregate-eliminate-2 c = search needs
-
-slice-aggregate-eliminate-3 : tie.Need-slice-aggregate-eliminate-3
-slice-aggregate-eliminate-3 c = search needs
-
 eliminate-requires : tie.Need-eliminate-requires
 eliminate-requires c κs =
-    let s = c .before .before .before .before .before .before .before .before .before .before in
+    let s = c .before .before .before .before .before .before .before .before .before .before .before .before .before .before in
     let x = s .args in
-    let marks = c .before .before .before .before .before .before .mark in
-    let n = high-long (x .q) (x .m) (marks .last .1 .1 .0) (marks .ensures) in (
-      (zero-table (x .q) _ n, zero-table (x .q) _ n),
-      ((rw n (s .pre .0 .2), s .pre .0 .3), (s .pre .1 .0 ∙ sym n, s .pre .1 .1)),
+    let k = c .before .before .before .before .before .before .before .mark in
+    let e = high-long (x .q) (x .m) (now (x .high)) (k .last .1 .1 .0) (k .ensures) in
+    let F = fieldOf (x .q) in (
+      (
+        subst (λ (n : ℕ). Table F n (halfOf (x .q)) (now (x .low))) (sym e) (s .pre .1 .0 .0),
+        subst (λ (n : ℕ). Table F n (halfOf (x .q)) (now (x .top))) (sym e) (s .pre .1 .0 .1),
+      ),
+      ((s .pre .0 .3 ∙ ap (λ (n : ℕ). n * x .count) (sym e), s .pre .0 .4), (s .pre .1 .1 .0 ∙ sym e, s .pre .1 .1 .1)),
     )
 
 same-length : tie.Need-same-length
@@ -38,27 +35,32 @@ same-length c = search needs
 same-length-2 : tie.Need-same-length-2
 same-length-2 c = search needs
 
+same-length-3 : tie.Need-same-length-3
+same-length-3 c = search needs
+
+same-length-4 : tie.Need-same-length-4
+same-length-4 c = search needs
+
+same-length-5 : tie.Need-same-length-5
+same-length-5 c = search needs
+
 returns : tie.Need-returns
 returns c =
-    let x = c .before .before .before .before .before .before .before .before .before .before .before .before .before .before .before
-    .before .before .args in
-    let marks = c .before .before .before .before .before .before .before .before .before .before .before .before .before .mark in
-    let e = c .before .before .before .before .before .before .eliminate in (
-      e .ensures .0,
-      heavy-eliminated (x .q) (x .m) (marks .last .1 .1 .0) (marks .ensures) (x .count) (now (x .vectors)) (now (x .grid))
-          (e .last .1 .1 .1 .1 .1 .0) (e .last .1 .1 .1 .1 .1 .1 .0) (e .result) (e .ensures .1),
-    )
+    let s = c .before .before .before .before .before .before .before .before .before .before .before .before .before .before .before .before .before .before .before .before .before .before .before in
+    let x = s .args in
+    let k = c .before .before .before .before .before .before .before .before .before .before .before .before .before .before .before .before .mark in
+    let e = c .before .before .before .before .before .before .before .before .eliminate in
+    (e .ensures .0, heavy-eliminated (x .q) (x .m) (now (x .high)) (k .last .1 .1 .0) (k .ensures) (x .count) (now (x .vectors)) (now (x .grid)) (e .last .1 .1 .1 .1 .1 .0) (e .last .1 .1 .1 .1 .1 .1 .0) (e .result) (e .ensures .1))
 
 pub eliminate-spec : {M : Type 1} → statement M
 eliminate-spec =
     tie.close
     (tie.spec
-    slice-aggregate-mark
     mark-requires
-    slice-aggregate-eliminate
-    slice-aggregate-eliminate-2
-    slice-aggregate-eliminate-3
     eliminate-requires
     same-length
     same-length-2
+    same-length-3
+    same-length-4
+    same-length-5
     returns)

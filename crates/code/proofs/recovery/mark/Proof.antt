@@ -39,7 +39,7 @@ divide-requires : tie.Need-divide-requires Inv-loop μ-loop
 divide-requires c κs = c .before .before .before .pre .0
 
 -- q times the remainder is small
-low : (c : tie.After-divide Inv-loop μ-loop) → c .before .before .before .before .args .q * c .divide .result .rest ≤ 16
+low : (c : tie.After-divide Inv-loop μ-loop) → c .before .before .before .before .args .q * c .divide .result .rest ≤ 64
 low c =
     let s = c .before .before .before .before in
     small-product (s .args .q) (s .pre .0) (c .before .before .loop .e) (c .divide .result .rest) (c .divide .ensures .1)

@@ -2,7 +2,6 @@
 -- Assumes nothing.
 use mathlib.Core.Logic.{⊎-elim}
 use mathlib.Core.Path.{_≡_, ap, _∙_}
-use borrow.Author.Needs.{needs}
 use Prim.Native.Nat.{ℕ, _+_, _-_, _*_, _/_, _%_, _≤_, _<_}
 use native.Mathlib.Omega.{arith}
 use denote.Ref.{now}
@@ -15,80 +14,63 @@ use Rattle.code.proofs.recovery.write_indicators.Statement.{statement}
 use Rattle.code.proofs.recovery.write_indicators.Tie as tie
 
 abbrev Inv-loop : tie.InvT-loop
-Inv-loop q columns word stride vectors₀ factors powers ys count₀ at₀ p₀ vectors count at p =
+Inv-loop q factors powers ys columns word stride vectors₀ count₀ at₀ p₀ vectors count at p =
     RowsBelow q columns word stride vectors₀ vectors count at p
 
 abbrev μ-loop : tie.MeasureT-loop
-μ-loop q columns word stride vectors₀ factors powers ys count₀ at₀ p₀ vectors count at p = length word - p
-
-y-factors-requires : tie.Need-y-factors-requires Inv-loop μ-loop
-y-factors-requires c κs = c .before .before .before .pre .0 .0 .over .curve
-
-x-powers-requires : tie.Need-x-powers-requires Inv-loop μ-loop
-x-powers-requires c κs = c .before .before .before .before .pre .0 .0 .over .curve
-
-ys-requires : tie.Need-ys-requires Inv-loop μ-loop
-ys-requires c κs = c .before .before .before .before .before .pre .0 .0 .over .curve
-
-loop-holds : tie.Need-loop-holds Inv-loop μ-loop
-loop-holds c =
-    let s = c .before .before .before .before .before .before in
-    rows-none (s .args .q) (now (s .args .columns)) (now (s .args .word)) (s .args .stride) (now (s .args .vectors)) (s .pre .1 .1)
-
-shared-slice-read-if1 : tie.Need-shared-slice-read-if1 Inv-loop μ-loop
-shared-slice-read-if1 c = omega arith
-
-divide-requires : tie.Need-divide-requires Inv-loop μ-loop
-divide-requires c κs = c .before .before .before .before .before .before .before .before .before .before .pre .0 .0 .over .curve
+μ-loop q factors powers ys columns word stride vectors₀ count₀ at₀ p₀ vectors count at p = length word - p
 
 -- the point of the gap
-point : (c : tie.After-divide Inv-loop μ-loop) → let l = c .before .before .before .before in let p = l .loop .p in let d = c .divide .result in
-    let a = l .before .before .before .before .before .before .before .args in
-    (d .whole < length (now (a .columns))) × (a .q * getD (now (a .columns)) (d .whole) 0 + d .rest < 64)
-    × (getD (l .before .ys .result) (a .q * getD (now (a .columns)) (d .whole) 0 + d .rest) 0
+point : (c : tie.After-divide Inv-loop μ-loop) → let p = c .before .before .before .before .loop .p in let d = c .divide .result in
+    let a = c .before .before .before .before .before .before .before .before .before .before .before .args in
+    (d .whole < length (now (a .columns))) × (a .q * getD (now (a .columns)) (d .whole) 0 + d .rest < a .q * a .q * a .q)
+    × (getD (now (a .ys)) (a .q * getD (now (a .columns)) (d .whole) 0 + d .rest) 0
     ≡ getD (ysOf (a .q) (getD (now (a .columns)) (p / a .q) 0)) (p % a .q) 0)
 point c =
     let s = c .before .before .before .before .before .before .before .before .before .before .before in
     let l = c .before .before .before .before .loop in
-    let y = c .before .before .before .before .before .ys in
-    place-point (s .args .q) (now (s .args .columns)) (s .pre .0 .0 .over) (l .p) _ _ (c .divide .ensures)
-    (omega (arith, c .before .before .before .loop-test .taken, s .pre .0 .0 .long)) (y .result) (y .ensures)
+    place-point (s .args .q) (now (s .args .columns)) (s .pre .1 .0 .0 .over) (l .p) _ _ (c .divide .ensures)
+    (omega (arith, c .before .before .before .loop-test .taken, s .pre .1 .0 .0 .long)) (now (s .args .ys)) (s .pre .0 .2)
 
 -- the next row
-next : (c : tie.In-loop Inv-loop μ-loop) →
-    let a = c .before .before .before .before .before .before .before .before .args in let l = c .before .loop in
+next : (c : tie.In-loop Inv-loop μ-loop) → let a = c .before .before .before .before .before .before .before .before .args in let l = c .before .loop in
     (l .at + a .stride ≤ length (l .vectors)) × (l .count < length (now (a .word)))
 next c =
     let s = c .before .before .before .before .before .before .before .before in
     let a = s .args in
     let l = c .before .loop in
     let w = row-within (a .q) (now (a .columns)) (now (a .word)) (a .stride) (now (a .vectors)) (l .vectors) (l .count) (l .at) (l .p) (l .inv)
-    (c .loop-test .taken) (s .pre .1 .0) in
+    (c .loop-test .taken) (s .pre .1 .1 .0) in
     (w .0, w .3)
+
+loop-holds : tie.Need-loop-holds Inv-loop μ-loop
+loop-holds c =
+    let s = c .before .before .before .before .before .before in
+    rows-none (s .args .q) (now (s .args .columns)) (now (s .args .word)) (s .args .stride) (now (s .args .vectors)) (s .pre .1 .1 .1)
+
+shared-slice-read-if1 : tie.Need-shared-slice-read-if1 Inv-loop μ-loop
+shared-slice-read-if1 c = omega arith
+
+divide-requires : tie.Need-divide-requires Inv-loop μ-loop
+divide-requires c κs = c .before .before .before .before .before .before .before .before .before .before .pre .1 .0 .0 .over .curve
 
 shared-slice-read-x : tie.Need-shared-slice-read-x Inv-loop μ-loop
 shared-slice-read-x c = point (c .before) .0
 
 cast-i : tie.Need-cast-i Inv-loop μ-loop
-cast-i c = omega (arith, c .shared-slice-known4 .given (c .before .divide .result .whole))
+cast-i c = omega (arith, c .shared-slice-known7 .given (c .before .divide .result .whole))
 
 mul-i : tie.Need-mul-i Inv-loop μ-loop
-mul-i c = omega (arith, point (c .before) .1)
+mul-i c = let s = c .before .before .before .before .before .before .before .before .before .before .before .before in omega (arith, point (c .before) .1, sizes (s .args .q) (s .pre .1 .0 .0 .over .curve) .points)
 
 add-i : tie.Need-add-i Inv-loop μ-loop
-add-i c = omega (arith, point (c .before .before) .1)
+add-i c = let s = c .before .before .before .before .before .before .before .before .before .before .before .before .before in omega (arith, point (c .before .before) .1, sizes (s .args .q) (s .pre .1 .0 .0 .over .curve) .points)
 
-array-read-y : tie.Need-array-read-y Inv-loop μ-loop
-array-read-y c = point (c .before .before) .1
+shared-slice-read-y : tie.Need-shared-slice-read-y Inv-loop μ-loop
+shared-slice-read-y c = let s = c .before .before .before .before .before .before .before .before .before .before .before .before .before .before in omega (arith, point (c .before .before .before) .1, s .pre .0 .2 .long)
 
 add-end : tie.Need-add-end Inv-loop μ-loop
-add-end c = omega (arith, next (c .before .before .before .before .before) .0)
-
-slice-aggregate-write : tie.Need-slice-aggregate-write Inv-loop μ-loop
-slice-aggregate-write c = search needs
-
-slice-aggregate-write-2 : tie.Need-slice-aggregate-write-2 Inv-loop μ-loop
-slice-aggregate-write-2 c = search needs
+add-end c = omega (arith, next (c .before .before .before .before .before .before) .0)
 
 sub-write : tie.Need-sub-write Inv-loop μ-loop
 sub-write c = omega arith
@@ -97,30 +79,29 @@ part-write-start : tie.Need-part-write-start Inv-loop μ-loop
 part-write-start c = omega arith
 
 part-write-end : tie.Need-part-write-end Inv-loop μ-loop
-part-write-end c = next (c .before .before .before .before .before .before .before) .0
+part-write-end c = next (c .before .before .before .before .before .before) .0
 
 write-requires : tie.Need-write-requires Inv-loop μ-loop
 write-requires c κs =
-    let s = c .before .before .before .before .before .before .before .before .before .before .before .before .before .before .before .before in
+    let s = c .before .before .before .before .before .before .before .before .before .before .before .before .before .before .before in
     let a = s .args in
-    let l = c .before .before .before .before .before .before .before .before .before .loop in
-    let d = c .before .before .before .before .before .divide .result in
-    let y = c .before .before .before .before .before .before .before .before .before .before .ys in
-    let z = sizes (a .q) (s .pre .0 .0 .over .curve) in
+    let l = c .before .before .before .before .before .before .before .before .loop in
+    let d = c .before .before .before .before .divide .result in
+    let z = sizes (a .q) (s .pre .1 .0 .0 .over .curve) in
     let w = row-within (a .q) (now (a .columns)) (now (a .word)) (a .stride) (now (a .vectors)) (l .vectors) (l .count) (l .at) (l .p) (l .inv)
-    (c .before .before .before .before .before .before .before .before .loop-test .taken) (s .pre .1 .0) in (
+    (c .before .before .before .before .before .before .before .loop-test .taken) (s .pre .1 .1 .0) in (
       (
-        s .pre .0 .0 .over .curve,
-        c .before .before .before .before .before .before .before .before .before .before .before .before .y-factors .ensures,
-        c .before .before .before .before .before .before .before .before .before .before .before .x-powers .ensures,
-        s .pre .0 .0 .over .small _ (point (c .before .before .before .before .before) .0),
-        omega (arith, y .ensures .symbols (a .q * getD (now (a .columns)) (d .whole) 0 + d .rest), z .size),
+        s .pre .1 .0 .0 .over .curve,
+        s .pre .0 .0,
+        s .pre .0 .1,
+        s .pre .1 .0 .0 .over .small _ (point (c .before .before .before .before) .0),
+        omega (arith, s .pre .0 .2 .symbols (a .q * getD (now (a .columns)) (d .whole) 0 + d .rest), z .size),
       ),
-      (omega (arith, w .1, s .pre .0 .2), w .2),
+      (omega (arith, w .1, s .pre .1 .0 .2), w .2),
     )
 
 add-count : tie.Need-add-count Inv-loop μ-loop
-add-count c = omega (arith, next (c .before .before .before .before .before .before .before .before .before .before .before) .1)
+add-count c = omega (arith, next (c .before .before .before .before .before .before .before .before .before .before) .1)
 
 add-p : tie.Need-add-p Inv-loop μ-loop
 add-p c = omega arith
@@ -132,21 +113,21 @@ loop-again : tie.Need-loop-again Inv-loop μ-loop
 loop-again c =
     let s = c .before .before .before .before .before .before .before .before .before .before in
     let a = s .args in
-    let h = s .pre .0 in
+    let h = s .pre .1 .0 in
     let l = c .before .before .before .loop in
     let k = c .before .before .loop-test .taken in
-    let w = row-within (a .q) (now (a .columns)) (now (a .word)) (a .stride) (now (a .vectors)) (l .vectors) (l .count) (l .at) (l .p) (l .inv) k
-    (s .pre .1 .0) in
+    let w = row-within (a .q) (now (a .columns)) (now (a .word)) (a .stride) (now (a .vectors)) (l .vectors) (l .count) (l .at) (l .p) (l .inv)
+    k (s .pre .1 .1 .0) in
     ⊎-elim
-    (λ v. rw (v .10, v .11, v .12)
+    (λ v. rw (v .9, v .10, v .11)
     (rows-more (a .q) (now (a .columns)) (now (a .word)) (a .stride) (now (a .vectors)) (l .vectors) (l .count) (l .at) (l .p) (l .inv) k
-    (s .pre .1 .0) (h .0 .over .curve) (h .1) (h .2) (v .0 .taken) _ _
+    (s .pre .1 .1 .0) (h .0 .over .curve) (h .1) (h .2) (v .0 .taken) _ _
     (ap (λ (t : ℕ). getD (now (a .columns)) t 0) (v .1 .ensures .0))
     (point record { before = record { before = c .before; if1 = v .0 }; divide = v .1 } .2)
-    _ (v .7 .kept .1 .1 .1 .1 .1 .0 ∙ w .1) (v .7 .ensures .0 .0) (v .7 .ensures .0 .1) (v .7 .ensures .1)))
+    _ (v .6 .kept .1 .1 .1 .1 .1 .0 ∙ w .1) (v .6 .ensures .0 .0) (v .6 .ensures .0 .1) (v .6 .ensures .1)))
     (λ v. rw (v .1, v .2, v .3)
     (rows-same (a .q) (now (a .columns)) (now (a .word)) (a .stride) (now (a .vectors)) (l .vectors) (l .count) (l .at) (l .p) (l .inv) k
-    (s .pre .1 .0) (v .0 .left)))
+    (s .pre .1 .1 .0) (v .0 .left)))
     (c .if1 .came)
 
 same-length : tie.Need-same-length Inv-loop μ-loop
@@ -165,9 +146,6 @@ write-indicators-spec =
     (tie.spec
     Inv-loop
     μ-loop
-    y-factors-requires
-    x-powers-requires
-    ys-requires
     loop-holds
     shared-slice-read-if1
     divide-requires
@@ -175,10 +153,8 @@ write-indicators-spec =
     cast-i
     mul-i
     add-i
-    array-read-y
+    shared-slice-read-y
     add-end
-    slice-aggregate-write
-    slice-aggregate-write-2
     sub-write
     part-write-start
     part-write-end

@@ -1,44 +1,33 @@
 -- `code::term::low_weight` meets its contract: the rows before the row are full, and hold no more than n terms.
 -- Assumes nothing.
-use mathlib.Core.Path.{_≡_, refl, sym, ap, subst}
-use Prim.Native.Nat.{ℕ, suc, _+_, _-_, _*_, _≤_, _<_}
+use mathlib.Core.Path.{_≡_, refl}
+use Prim.Native.Nat.{suc, _+_, _-_, _*_, _≤_, _<_}
 use native.Mathlib.Nat.{suc-mul, mul-suc, mul-le-mul-left}
 use native.Mathlib.Numerals.{add-one}
 use native.Mathlib.Omega.{arith}
-use borrow.Author.Needs.{needs}
-use Rattle.field.specs.declared.curve.Curve.{Curve}
 use Rattle.field.proofs.Curves.{sizes}
-use Rattle.code.specs.inner.Grid.{WeightOfTerm}
 use Rattle.code.proofs.Weights.{curve-pos, twice-genus, genus-small, row-lt, low-weight}
 use Rattle.code.proofs.term.low_weight.Statement.{statement}
 use Rattle.code.proofs.term.low_weight.Tie as tie
 
 abbrev Inv-loop : tie.InvT-loop
-Inv-loop q n curve row₀ before₀ row before = (2 * before ≡ row * suc row) × (before ≤ n) × (row < q)
+Inv-loop q n width row₀ before₀ row before = (2 * before ≡ row * suc row) × (before ≤ n) × (row < q)
 
 abbrev μ-loop : tie.MeasureT-loop
-μ-loop q n curve row₀ before₀ row before = n - before
+μ-loop q n width row₀ before₀ row before = n - before
 
--- where the row begins
-row-at : (c : tie.After-loop Inv-loop μ-loop) → let r = c .before .loop .row in
-    c .before .before .at .result .«weight_x» * r ≡ c .before .before .before .args .q * r
-row-at c = ap (λ (v : Curve). v .«weight_x» * c .before .loop .row) (c .before .before .at .ensures)
-
-row-short : (c : tie.After-loop Inv-loop μ-loop) → c .before .before .at .result .«weight_x» * c .before .loop .row ≤ 16
+row-short : (c : tie.After-loop Inv-loop μ-loop) → c .before .before .args .q * c .before .loop .row ≤ 64
 row-short c =
-    let s = c .before .before .before in
+    let s = c .before .before in
     let l : c .before .loop .row ≤ s .args .q = omega (arith, c .before .loop .inv .2) in
-    omega (arith, row-at c, mul-le-mul-left (s .args .q) l, sizes (s .args .q) (s .pre .0) .symbols)
-
-at-requires : tie.Need-at-requires Inv-loop μ-loop
-at-requires c κs = search needs
+    omega (arith, mul-le-mul-left (s .args .q) l, sizes (s .args .q) (s .pre .0) .symbols)
 
 loop-holds : tie.Need-loop-holds Inv-loop μ-loop
-loop-holds c = (refl, omega arith, curve-pos (c .before .args .q) (c .before .pre .0))
+loop-holds c = (refl, omega arith, curve-pos (c .args .q) (c .pre .0))
 
 add-loop : tie.Need-add-loop Inv-loop μ-loop
 add-loop c =
-    let s = c .before .before in
+    let s = c .before in
     omega (arith, c .loop .inv .1, c .loop .inv .2, s .pre .1, genus-small (s .args .q) (s .pre .0), sizes (s .args .q) (s .pre .0) .high)
 
 add-row : tie.Need-add-row Inv-loop μ-loop
@@ -53,7 +42,7 @@ loop-less c = omega arith
 loop-again : tie.Need-loop-again Inv-loop μ-loop
 loop-again c =
     let l = c .before .loop in
-    let s = c .before .before .before in
+    let s = c .before .before in
     let q = s .args .q in
     let e : 2 * (l .before + (l .row + 1)) ≡ (l .row + 1) * suc (l .row + 1) =
     rw (add-one (l .row)) (omega (arith, l .inv .0, suc-mul (l .row) (suc (suc (l .row))), mul-suc (l .row) (suc (l .row)))) in
@@ -61,23 +50,22 @@ loop-again c =
     (e, n, row-lt q (curve-pos q (s .pre .0)) (l .row + 1) (omega (arith, e, n, s .pre .1, twice-genus q (curve-pos q (s .pre .0)))))
 
 mul-result : tie.Need-mul-result Inv-loop μ-loop
-mul-result c = omega (arith, row-short (c .before))
+mul-result c = omega (arith, row-short c)
 
 sub-result : tie.Need-sub-result Inv-loop μ-loop
-sub-result c = c .before .before .loop .inv .1
+sub-result c = c .before .loop .inv .1
 
 add-result : tie.Need-add-result Inv-loop μ-loop
 add-result c =
-    let s = c .before .before .before .before in
-    omega (arith, row-short (c .before), s .pre .1, genus-small (s .args .q) (s .pre .0))
+    let s = c .before .before in
+    omega (arith, row-short c, s .pre .1, genus-small (s .args .q) (s .pre .0))
 
 returns : tie.Need-returns Inv-loop μ-loop
 returns c =
-    let l = c .before .before .loop in
-    let s = c .before .before .before .before in
+    let l = c .before .loop in
+    let s = c .before .before in
     let q = s .args .q in
-    subst (λ (w : ℕ). WeightOfTerm q (s .args .n) (w + (s .args .n - l .before))) (sym (row-at (c .before)))
-    (low-weight q (curve-pos q (s .pre .0)) (l .row) (l .before) (s .args .n) (l .inv .0) (l .inv .2) (l .inv .1) (c .before .loop-test .left))
+    low-weight q (curve-pos q (s .pre .0)) (l .row) (l .before) (s .args .n) (l .inv .0) (l .inv .2) (l .inv .1) (c .loop-test .left)
 
 pub low-weight-spec : {M : Type 1} → statement M
 low-weight-spec =
@@ -85,7 +73,6 @@ low-weight-spec =
     (tie.spec
     Inv-loop
     μ-loop
-    at-requires
     loop-holds
     add-loop
     add-row

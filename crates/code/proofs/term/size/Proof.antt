@@ -13,7 +13,7 @@ use Rattle.code.proofs.term.size.Tie as tie
 
 -- 2g is q (q - 1)
 genus : (c : tie.After-struct-known) → let q = c .before .before .args .q in
-    (2 * c .before .at .result .genus ≡ q * (q - 1)) × (1 < q * (q - 1)) × (q * (q - 1) ≤ 16)
+    (2 * c .before .at .result .genus ≡ q * (q - 1)) × (1 < q * (q - 1)) × (q * (q - 1) ≤ 64)
 genus c =
     let s = c .before .before in
     let q = s .args .q in
@@ -27,7 +27,7 @@ genus c =
 
 -- the row of m, for an m before 2g - 1
 row : (c : tie.After-divide) → let q = c .before .before .before .before .args .q in let a = c .divide .result .whole in
-    (a < q) × (a * (a + 1) ≤ 20) × (c .divide .result .rest < q)
+    (a < q) × (a * (a + 1) ≤ 72) × (c .divide .result .rest < q)
 row c =
     let s = c .before .before .before .before in
     let q = s .args .q in
@@ -36,8 +36,8 @@ row c =
     let g = genus (c .before .before) in
     let l : c .divide .result .whole < q =
     omega (arith, d .0, low-row q (curve-pos q (s .pre)) (s .args .m) (omega (arith, c .before .if1 .left, g .0, g .1))) in
-    let few : c .divide .result .whole ≤ 4 = omega (arith, l, z .high) in
-    let more : c .divide .result .whole + 1 ≤ 5 = omega arith in
+    let few : c .divide .result .whole ≤ 8 = omega (arith, l, z .high) in
+    let more : c .divide .result .whole + 1 ≤ 9 = omega arith in
     (l, omega (arith, mul-le-mul few more), omega (arith, d .1, mod-lt (s .args .m) (curve-pos q (s .pre))))
 
 at-requires : tie.Need-at-requires

@@ -1,9 +1,11 @@
 -- `code::unencoding::interpolate` meets its contract: both stages leave the grid of the word in the front of work. Assumes nothing.
 use mathlib.Core.Path.{_∙_}
+use native.Mathlib.Omega.{arith}
 use borrow.Author.Needs.{needs}
 use denote.Ref.{now}
+use lib.ListN.{length}
 use Rattle.field.proofs.Curves.{sizes}
-use Rattle.code.proofs.Stages.{columns-below}
+use Rattle.code.proofs.Stages.{columns-below, short-narrow}
 use Rattle.code.proofs.WordGrids.{grid-of}
 use Rattle.code.proofs.unencoding.interpolate.Statement.{statement}
 use Rattle.code.proofs.unencoding.interpolate.Tie as tie
@@ -13,22 +15,23 @@ interpolate-in-y-requires c κs = search needs
 
 interpolate-requires : tie.Need-interpolate-requires
 interpolate-requires c κs =
-    let s = c .before .before .before .before .before .before .before .before .before in
+    let s = c .before .before .before .before .before .before .before .before .before .before in
     let y = c .before .before .before .interpolate-in-y in
-    let h = s .pre .0 .0 in (
+    let h = s .pre .0 .0 in
+    let z = sizes (s .args .q) (h .over .curve) in (
       (
         record {
           columns-below = columns-below (s .args .q) (now (s .args .columns)) (h .over);
           work-below = y .ensures .symbols;
-          few = h .few;
-          narrow = sizes (s .args .q) (h .over .curve) .high;
-          long = y .kept .1 .1 .1 .0 ∙ s .pre .1 .0;
+          few = omega (arith, h .few, z .symbols);
+          narrow = z .high;
+          long = y .kept .1 .1 .1 .1 .0 ∙ s .pre .1 .0;
           zeros = y .ensures .zeros;
         },
         s .pre .0 .1,
         h .over .distinct,
       ),
-      s .pre .0 .2,
+      (short-narrow (s .args .q) (length (now (s .args .columns))) (h .over .curve) (h .few), s .pre .0 .2),
     )
 
 same-length : tie.Need-same-length
@@ -36,12 +39,12 @@ same-length c = search needs
 
 returns : tie.Need-returns
 returns c =
-    let s = c .before .before .before .before .before .before .before .before .before .before .before .before in
+    let s = c .before .before .before .before .before .before .before .before .before .before .before .before .before in
     let y = c .before .before .before .before .before .before .interpolate-in-y in
     let z = c .before .before .interpolate in
     let a = s .args in
-    grid-of (a .q) (now (a .columns)) (now (a .word)) (s .pre .0 .0) (y .last .1 .1 .1 .0) (z .last .1 .1 .1 .1 .0) (y .ensures)
-    (z .kept .1 .1 .1 .1 .0 ∙ y .kept .1 .1 .1 .0 ∙ s .pre .1 .0) (z .ensures)
+    grid-of (a .q) (now (a .columns)) (now (a .word)) (s .pre .0 .0) (y .last .1 .1 .1 .1 .0) (z .last .1 .1 .1 .1 .0) (y .ensures)
+    (z .kept .1 .1 .1 .1 .0 ∙ y .kept .1 .1 .1 .1 .0 ∙ s .pre .1 .0) (z .ensures)
 
 pub interpolate-spec : {M : Type 1} → statement M
 interpolate-spec =

@@ -9,16 +9,15 @@ use denote.Ref.{now}
 use lib.ListN.{length, getD}
 use Rattle.poly.proofs.Blocks.{block-start, block-fits}
 use Rattle.code.proofs.ColumnInterpolation.{InterpolatedSoFar, so-far-none, so-far-all, lanes-fit, column-given, so-far-turn}
-use borrow.Author.Needs.{needs}
 use Rattle.code.proofs.unencoding.interpolate_in_y.Statement.{statement}
 use Rattle.code.proofs.unencoding.interpolate_in_y.Tie as tie
 
 abbrev Inv-loop : tie.InvT-loop
-Inv-loop q columns word work₀ width all t₀ at₀ row₀ work t at row =
+Inv-loop q all columns word work₀ width t₀ at₀ row₀ work t at row =
     (length work ≡ length work₀) × (at ≡ q * t) × (row ≡ 16 * t) × InterpolatedSoFar q columns word work t
 
 abbrev μ-loop : tie.MeasureT-loop
-μ-loop q columns word work₀ width all t₀ at₀ row₀ work t at row = length columns - t
+μ-loop q all columns word work₀ width t₀ at₀ row₀ work t at row = length columns - t
 
 -- the column's part of the word, and its sixteen numbers of work
 word-fits : (c : tie.In-loop Inv-loop μ-loop) → let x = c .before .before .before .before .before .before .args in
@@ -26,51 +25,45 @@ word-fits : (c : tie.In-loop Inv-loop μ-loop) → let x = c .before .before .be
 word-fits c =
     let s = c .before .before .before .before .before .before in
     let l = c .before .loop in
-    omega (arith, l .inv .1, s .pre .0 .long, block-fits (s .args .q) (l .t) (length (now (s .args .columns))) (c .loop-test .taken))
+    omega (arith, l .inv .1, s .pre .0 .0 .long, block-fits (s .args .q) (l .t) (length (now (s .args .columns))) (c .loop-test .taken))
 
 row-fits : (c : tie.In-loop Inv-loop μ-loop) → c .before .loop .row + 16 ≤ length (c .before .loop .work)
 row-fits c =
     let s = c .before .before .before .before .before .before in
     let l = c .before .loop in
-    omega (arith, l .inv .0, l .inv .2, s .pre .1, block-fits 16 (l .t) (length (now (s .args .columns))) (c .loop-test .taken))
+    omega (arith, l .inv .0, l .inv .2, s .pre .0 .1, block-fits 16 (l .t) (length (now (s .args .columns))) (c .loop-test .taken))
 
 -- its y are within the table
 ys-fit : (c : tie.In-loop Inv-loop μ-loop) → let x = c .before .before .before .before .before .before .args in
-    x .q * getD (now (x .columns)) (c .before .loop .t) 0 + 16 ≤ 80
+    x .q * getD (now (x .columns)) (c .before .loop .t) 0 + 16 ≤ length (now (x .all))
 ys-fit c =
     let s = c .before .before .before .before .before .before in
-    lanes-fit (s .args .q) (now (s .args .columns)) (now (s .args .word)) (s .pre .0) _
-    (c .before .before .padded-ys .ensures) (c .before .loop .t) (c .loop-test .taken)
-
-padded-ys-requires : tie.Need-padded-ys-requires Inv-loop μ-loop
-padded-ys-requires c κs = c .before .before .before .pre .0 .over .curve
+    lanes-fit (s .args .q) (now (s .args .columns)) (now (s .args .word)) (s .pre .0 .0)
+    (now (s .args .all)) (s .pre .1) (c .before .loop .t) (c .loop-test .taken)
 
 loop-holds : tie.Need-loop-holds Inv-loop μ-loop
 loop-holds c =
     let s = c .before .before .before .before in
     let x = s .args in
-    (refl, sym (mul-zero (x .q)), refl, so-far-none (x .q) (now (x .columns)) (now (x .word)) (s .pre .0) (now (x .work)) (s .pre .2))
-
-slice-aggregate-take : tie.Need-slice-aggregate-take Inv-loop μ-loop
-slice-aggregate-take c = search needs
+    (refl, sym (mul-zero (x .q)), refl, so-far-none (x .q) (now (x .columns)) (now (x .word)) (s .pre .0 .0) (now (x .work)) (s .pre .0 .2))
 
 shared-slice-read-take : tie.Need-shared-slice-read-take Inv-loop μ-loop
 shared-slice-read-take c = omega arith
 
 cast-take : tie.Need-cast-take Inv-loop μ-loop
-cast-take c = omega (arith, c .shared-slice-known3 .given (c .before .before .before .loop .t))
+cast-take c = omega (arith, c .shared-slice-known4 .given (c .before .before .loop .t))
 
 mul-take : tie.Need-mul-take Inv-loop μ-loop
-mul-take c = omega (arith, ys-fit (c .before .before))
+mul-take c = omega (arith, ys-fit (c .before))
 
 take-requires : tie.Need-take-requires Inv-loop μ-loop
-take-requires c κs = omega (arith, ys-fit (c .before .before), c .before .before .before .before .padded-ys .ensures .long)
+take-requires c κs = ys-fit (c .before)
 
 add-end : tie.Need-add-end Inv-loop μ-loop
-add-end c = omega (arith, word-fits (c .before .before .before))
+add-end c = omega (arith, word-fits (c .before .before))
 
 add-to : tie.Need-add-to Inv-loop μ-loop
-add-to c = omega (arith, row-fits (c .before .before .before))
+add-to c = omega (arith, row-fits (c .before .before))
 
 sub-interpolate : tie.Need-sub-interpolate Inv-loop μ-loop
 sub-interpolate c = omega arith
@@ -79,7 +72,7 @@ part-interpolate-start : tie.Need-part-interpolate-start Inv-loop μ-loop
 part-interpolate-start c = omega arith
 
 part-interpolate-end : tie.Need-part-interpolate-end Inv-loop μ-loop
-part-interpolate-end c = word-fits (c .before .before .before .before)
+part-interpolate-end c = word-fits (c .before .before .before)
 
 sub-interpolate-2 : tie.Need-sub-interpolate-2 Inv-loop μ-loop
 sub-interpolate-2 c = omega arith
@@ -88,17 +81,17 @@ part-interpolate-start-2 : tie.Need-part-interpolate-start-2 Inv-loop μ-loop
 part-interpolate-start-2 c = omega arith
 
 part-interpolate-end-2 : tie.Need-part-interpolate-end-2 Inv-loop μ-loop
-part-interpolate-end-2 c = row-fits (c .before .before .before .before .before)
+part-interpolate-end-2 c = row-fits (c .before .before .before .before)
 
 interpolate-requires : tie.Need-interpolate-requires Inv-loop μ-loop
 interpolate-requires c κs =
-    let d = c .before .before .before .before .before .before in
+    let d = c .before .before .before .before .before in
     let s = d .before .before .before .before .before .before in
     let x = s .args in
     let l = d .before .loop in
-    column-given (x .q) (now (x .columns)) (now (x .word)) (s .pre .0) _ (d .before .before .padded-ys .ensures) (l .t) (d .loop-test .taken) _
+    column-given (x .q) (now (x .columns)) (now (x .word)) (s .pre .0 .0) _ (s .pre .1) (l .t) (d .loop-test .taken) _
     (c .before .before .before .take .ensures)
-    (l .work) (l .at) (l .row) (l .inv .1) (l .inv .2) (omega (arith, l .inv .0, s .pre .1)) (l .inv .3)
+    (l .work) (l .at) (l .row) (l .inv .1) (l .inv .2) (omega (arith, l .inv .0, s .pre .0 .1)) (l .inv .3)
 
 add-t : tie.Need-add-t Inv-loop μ-loop
 add-t c = omega arith
@@ -108,7 +101,7 @@ loop-less c = omega arith
 
 loop-again : tie.Need-loop-again Inv-loop μ-loop
 loop-again c =
-    let d = c .before .before .before .before .before .before .before .before .before in
+    let d = c .before .before .before .before .before .before .before .before in
     let s = d .before .before .before .before .before .before in
     let x = s .args in
     let l = d .before .loop in
@@ -117,9 +110,9 @@ loop-again c =
       same-len-mid (l .row) (l .row + 16 - l .row) (l .work) last (e .kept .1 .1 .1 .0) ∙ l .inv .0,
       block-start (x .q) (l .t) (l .at) (l .at + x .q) (l .inv .1) refl,
       block-start 16 (l .t) (l .row) (l .row + 16) (l .inv .2) refl,
-      so-far-turn (x .q) (now (x .columns)) (now (x .word)) (s .pre .0) _ (d .before .before .padded-ys .ensures) (l .t) (d .loop-test .taken) _
+      so-far-turn (x .q) (now (x .columns)) (now (x .word)) (s .pre .0 .0) _ (s .pre .1) (l .t) (d .loop-test .taken) _
           (c .before .before .before .before .before .before .take .ensures) (l .work) (l .at) (l .row) (l .inv .1) (l .inv .2)
-          (omega (arith, l .inv .0, s .pre .1)) (l .inv .3) last (e .kept .1 .1 .1 .0) (e .ensures),
+          (omega (arith, l .inv .0, s .pre .0 .1)) (l .inv .3) last (e .kept .1 .1 .1 .0) (e .ensures),
     )
 
 same-length : tie.Need-same-length Inv-loop μ-loop
@@ -130,7 +123,7 @@ returns c =
     let s = c .before .before .before .before .before .before in
     let x = s .args in
     let l = c .before .loop in
-    so-far-all (x .q) (now (x .columns)) (now (x .word)) (s .pre .0) (l .work) (l .t) (c .loop-test .left) (l .inv .3)
+    so-far-all (x .q) (now (x .columns)) (now (x .word)) (s .pre .0 .0) (l .work) (l .t) (c .loop-test .left) (l .inv .3)
 
 pub interpolate-in-y-spec : {M : Type 1} → statement M
 interpolate-in-y-spec =
@@ -138,9 +131,7 @@ interpolate-in-y-spec =
     (tie.spec
     Inv-loop
     μ-loop
-    padded-ys-requires
     loop-holds
-    slice-aggregate-take
     shared-slice-read-take
     cast-take
     mul-take

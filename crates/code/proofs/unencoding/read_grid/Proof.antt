@@ -1,6 +1,6 @@
 -- `code::unencoding::read_grid` meets its contract: the test of the weights decides. Assumes nothing.
 use mathlib.Core.Bool.{Bool, cond}
-use mathlib.Core.Path.{_≡_, sym, ap, _∙_}
+use mathlib.Core.Path.{sym, ap, _∙_}
 use borrow.Author.Needs.{needs}
 use denote.Ref.{now}
 use Rattle.field.specs.declared.outcome.Outcome.the-variants.{Done, NoMessage}

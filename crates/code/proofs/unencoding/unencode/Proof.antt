@@ -1,89 +1,84 @@
--- `code::unencoding::unencode` meets its contract: a refusal by the checks is the call's; past them the full list of columns is lent.
+-- `code::unencoding::unencode` meets its contract: a refusal by the checks is the call's; past them the word is read over the full list of
+-- columns.
 -- Assumes nothing.
-use mathlib.Core.Bool.{true, false}
+use mathlib.Core.Bool.{Bool, true, false, false≢true}
 use mathlib.Core.List.{List}
 use mathlib.Core.Path.{_≡_, sym, ap, _∙_, subst}
-use Prim.Native.Nat.{ℕ, _*_, _≤_, _<_}
-use native.Mathlib.Omega.{arith}
+use Prim.Native.Nat.{ℕ, _*_, _<_}
 use borrow.Author.Needs.{needs}
 use denote.Ref.{now}
 use lib.ListN.{length, take}
-use Rattle.field.specs.Curve.{IsCurve}
-use Rattle.field.specs.declared.curve.Curve.{Curve}
-use Rattle.field.proofs.Curves.{sizes}
+use Rattle.field.specs.Curve.{IsCurve, IsShort}
+use Rattle.field.specs.declared.outcome.Outcome.the-variants.{Done}
+use Rattle.field.proofs.Curves.{curve-of-true}
 use Rattle.field.proofs.Fields.{fieldOf}
 use Rattle.poly.specs.inner.Interpolation.{VanishingTree}
 use Rattle.code.specs.Points.{columnsOf}
 use Rattle.code.specs.Terms.{size}
+use Rattle.code.specs.Checks.{callChecks}
 use Rattle.code.specs.inner.Readable.{Readable, readOver}
-use Rattle.code.specs.Unencoded.{unencoded}
+use Rattle.code.specs.Unencoded.{unencodeChecks, unencoded}
 use Rattle.code.proofs.Checks.{Accepted, call-done}
 use Rattle.code.proofs.Answers.{not-refused, entry-refused}
-use Rattle.code.proofs.YsTables.{columns-take}
-use Rattle.code.proofs.FullColumns.{length-upTo, readable}
+use Rattle.code.proofs.AllColumns.{columns-are, columns-fit, columns-long}
+use Rattle.code.proofs.FullColumns.{readable}
+use Rattle.code.proofs.Stages.{not-long-short}
 use Rattle.code.proofs.unencoding.unencode.Statement.{statement}
 use Rattle.code.proofs.unencoding.unencode.Tie as tie
 
-returns : tie.Need-returns
-unfolding unencoded
-returns c = let x = c .before .before .before .before .args in entry-refused _ _ (now (x .message)) _ (c .before .call .ensures) (c .match .keys2)
+-- what was checked are the checks of the call
+checked : (c : tie.After-call) → let x = c .before .before .before .before .args in
+    c .call .result ≡ unencodeChecks (x .q) (x .m) (now (x .word)) (now (x .message))
+checked c =
+    let x = c .before .before .before .before .args in
+    c .call .ensures
+    ∙ ap (λ (taken : Bool). callChecks taken false true (x .q) (x .m) (now (x .word)) (length (now (x .message))) Done) (c .before .is-curve .ensures)
 
--- past the checks
-passed : (c : tie.After-enum-told) → let x = c .before .before .before .before .before .args in
-    IsCurve (x .q) × (x .m < x .q * x .q * x .q) × Accepted false (x .q * x .q) (x .q * x .q * x .q) (now (x .word)) (size (x .q) (x .m))
-    (length (now (x .message)))
-passed c = let x = c .before .before .before .before .before .args in call-done false true (x .q) (x .m) (now (x .word)) (length (now (x .message)))
-    (sym (c .before .before .call .ensures) ∙ c .enum-told .given .1)
+-- past them
+done : (c : tie.After-enum-told) → let x = c .before .before .before .before .before .before .args in
+    unencodeChecks (x .q) (x .m) (now (x .word)) (now (x .message)) ≡ Done
+done c = sym (checked (c .before .before)) ∙ c .enum-told .given .1
+
+passed : (c : tie.After-enum-told) → let x = c .before .before .before .before .before .before .args in
+    IsCurve (x .q) × (x .m < x .q * x .q * x .q) × Accepted false (x .q * x .q) (x .q * x .q * x .q) (now (x .word)) (size (x .q) (x .m)) (length (now (x .message)))
+passed c =
+    let x = c .before .before .before .before .before .before .args in
+    let p = call-done _ false true (x .q) (x .m) (now (x .word)) (length (now (x .message))) (done c) in
+    (curve-of-true (x .q) (p .0), p .1, p .2)
+
+ready : (c : tie.After-enum-told) → let x = c .before .before .before .before .before .before .args in
+    Readable (x .q) (columnsOf (x .q)) (x .m) (now (x .word)) (now (x .message))
+ready c =
+    let x = c .before .before .before .before .before .before .args in
+    let p = passed c in
+    readable (x .q) (x .m) (now (x .word)) (now (x .message)) (p .0) (p .1) (p .2)
+
+short : (c : tie.Else1) → IsShort (c .before .before .before .before .before .before .before .args .q)
+short c = not-long-short (c .before .before .before .before .before .before .before .args .q) (passed (c .before) .0) (c .if1 .left)
 
 -- the columns that are lent
-columns-are : (c : tie.After-at) → let x = c .before .before .before .before .before .before .before .before .args in
-    take (c .at .result .symbols) (c .before .columns .result) ≡ columnsOf (x .q)
-columns-are c =
-    let q = c .before .before .before .before .before .before .before .before .args .q in
-    ap (λ (v : Curve). take (v .symbols) (c .before .columns .result)) (c .at .ensures) ∙ ap (take (q * q)) (c .before .columns .ensures)
-    ∙ columns-take q (passed (c .before .before .before) .0)
+lent : (c : tie.After-at) → take (c .at .result .symbols) (c .before .columns .result) ≡ columnsOf (c .before .before .before .before .before .before .before .before .before .before .args .q)
+lent c = columns-are (c .before .before .before .before .before .before .before .before .before .before .args .q) (short (c .before .before .before)) _ _ (c .at .ensures) (c .before .columns .ensures)
 
--- as many as there are symbols
-columns-long : (c : tie.After-at) → c .at .result .symbols ≡ length (take (c .at .result .symbols) (c .before .columns .result))
-columns-long c = ap (λ (v : Curve). v .symbols) (c .at .ensures) ∙ sym (ap length (columns-are c) ∙ length-upTo _)
+is-curve-requires : tie.Need-is-curve-requires
+is-curve-requires c κs = search needs
 
 call-requires : tie.Need-call-requires
-call-requires c κs = search needs
+call-requires c κs e = curve-of-true (c .before .before .before .args .q) (sym (c .is-curve .ensures) ∙ e)
 
 enum-told : tie.Need-enum-told
 enum-told c = search needs
 
-tree-requires : tie.Need-tree-requires
-tree-requires c κs = passed c .0
+returns : tie.Need-returns
+unfolding unencoded
+returns c = let x = c .before .before .before .before .before .args in entry-refused _ _ (now (x .message)) _ (checked (c .before)) (c .match .keys2)
 
-columns-requires : tie.Need-columns-requires
-columns-requires c κs = search needs
-
-at-requires : tie.Need-at-requires
-at-requires c κs = passed (c .before .before) .0
-
-cast-c : tie.Need-cast-c
-cast-c c = search needs
-
-array-share-prefix-columns : tie.Need-array-share-prefix-columns
-array-share-prefix-columns c =
-    let few : c .before .at .result .symbols ≤ 16 = rw (c .before .at .ensures) (sizes _ (passed (c .before .before .before .before) .0) .symbols) in
-    omega (arith, ap length (c .before .before .columns .ensures), length-upTo 16, few)
-
-slice-aggregate-read-word-2 : tie.Need-slice-aggregate-read-word-2
-slice-aggregate-read-word-2 c = search needs
-
-slice-aggregate-read-word : tie.Need-slice-aggregate-read-word
-slice-aggregate-read-word c = columns-long (c .before .before)
-
-read-word-requires : tie.Need-read-word-requires
-read-word-requires c κs =
-    let x = c .before .before .before .before .before .before .before .before .before .before .before .before .args in
-    let p = passed (c .before .before .before .before .before .before .before) in
-    let tree = c .before .before .before .before .before .before .tree in
-    subst (λ (l : List ℕ). Readable (x .q) l (x .m) (now (x .word)) (now (x .message)) × VanishingTree (fieldOf (x .q)) l (tree .result))
-    (sym (columns-are (c .before .before .before .before)))
-    (readable (x .q) (x .m) (now (x .word)) (now (x .message)) (p .0) (p .1) (p .2), tree .ensures)
+run-requires : tie.Need-run-requires
+run-requires c κs =
+    let x = c .before .before .before .before .before .before .before .before .args in (
+      λ e. subst (λ (q : ℕ). Readable q (columnsOf q) (x .m) (now (x .word)) (now (x .message))) (c .before .if1 .taken) (ready (c .before .before)),
+      λ e. absurd (false≢true (sym e)),
+    )
 
 same-length : tie.Need-same-length
 same-length c = search needs
@@ -91,19 +86,68 @@ same-length c = search needs
 returns-2 : tie.Need-returns-2
 unfolding unencoded
 returns-2 c =
-    let x = c .before .before .before .before .before .before .before .before .before .before .before .before .before .before .before .args in
-    let called = c .before .before .before .before .before .before .before .before .before .before in
-    not-refused _ (now (x .message)) _ (sym (called .before .before .call .ensures) ∙ called .enum-told .given .1)
-    ∙ ap (λ (l : List ℕ). readOver (x .q) l (x .m) (now (x .word)) (now (x .message)))
-    (sym (columns-are (c .before .before .before .before .before .before .before))) ∙ c .before .before .read-word .ensures
+    let x = c .before .before .before .before .before .before .before .before .before .before .before .args in
+    let e = ap (λ (q : ℕ). readOver q (columnsOf q) (x .m) (now (x .word)) (now (x .message))) (c .before .before .before .before .if1 .taken) in
+    not-refused _ (now (x .message)) _ (done (c .before .before .before .before .before)) ∙ e ∙ c .before .before .run .ensures
+
+tree-requires : tie.Need-tree-requires
+tree-requires c κs = short c
+
+columns-requires : tie.Need-columns-requires
+columns-requires c κs = search needs
+
+at-requires : tie.Need-at-requires
+at-requires c κs = passed (c .before .before .before) .0
+
+cast-c : tie.Need-cast-c
+cast-c c = search needs
+
+array-share-prefix-columns : tie.Need-array-share-prefix-columns
+array-share-prefix-columns c =
+    let d = c .before .before .before .before in
+    columns-fit (d .before .before .before .before .before .before .before .args .q) (short d) _ _ (c .before .at .ensures) (c .before .before .columns .ensures)
+
+slice-aggregate-read-word : tie.Need-slice-aggregate-read-word
+slice-aggregate-read-word c =
+    let d = c .before .before .before .before .before in
+    columns-long (d .before .before .before .before .before .before .before .args .q) (short d) _ _ (c .before .before .at .ensures) (c .before .before .before .columns .ensures)
+
+slice-aggregate-read-word-2 : tie.Need-slice-aggregate-read-word-2
+slice-aggregate-read-word-2 c = search needs
+
+read-word-requires : tie.Need-read-word-requires
+read-word-requires c κs =
+    let d = c .before .before .before .before .before .before .before in
+    let x = d .before .before .before .before .before .before .before .args in
+    let tree = c .before .before .before .before .before .before .tree in
+    let all = sym (lent (c .before .before .before .before)) in (
+      subst (λ (l : List ℕ). Readable (x .q) l (x .m) (now (x .word)) (now (x .message))) all (ready (d .before)),
+      subst (λ (l : List ℕ). VanishingTree (fieldOf (x .q)) l (tree .result)) all (tree .ensures),
+      short d,
+    )
+
+same-length-2 : tie.Need-same-length-2
+same-length-2 c = search needs
+
+returns-3 : tie.Need-returns-3
+unfolding unencoded
+returns-3 c =
+    let d = c .before .before .before .before .before .before .before .before .before .before .before in
+    let x = d .before .before .before .before .before .before .args in
+    let e = ap (λ (l : List ℕ). readOver (x .q) l (x .m) (now (x .word)) (now (x .message))) (sym (lent (c .before .before .before .before .before .before .before))) in
+    not-refused _ (now (x .message)) _ (done d) ∙ e ∙ c .before .before .read-word .ensures
 
 pub unencode-spec : {M : Type 1} → statement M
 unencode-spec =
     tie.close
     (tie.spec
+    is-curve-requires
     call-requires
     enum-told
     returns
+    run-requires
+    same-length
+    returns-2
     tree-requires
     columns-requires
     at-requires
@@ -112,5 +156,5 @@ unencode-spec =
     slice-aggregate-read-word
     slice-aggregate-read-word-2
     read-word-requires
-    same-length
-    returns-2)
+    same-length-2
+    returns-3)

@@ -6,6 +6,7 @@ use Prim.Native.Nat.{_≤_}
 use native.Mathlib.Omega.{arith}
 use borrow.Author.Needs.{needs}
 use denote.Ref.{now}
+use Rattle.field.proofs.Curves.{short-curve}
 use Rattle.field.proofs.Fields.{fieldOf}
 use Rattle.poly.specs.inner.Linear.{entry}
 use Rattle.poly.specs.inner.Systems.{flat, rank}
@@ -92,7 +93,7 @@ collect-requires : tie.Need-collect-requires
 collect-requires c κs =
     let s = c .before .before .before .before .before .before in
     let x = s .args in (
-      (s .pre .0 .2, s .pre .0 .3, size-short (x .q) (s .pre .0 .0) (x .m) (s .pre .0 .1), s .pre .0 .4),
+      (s .pre .0 .2, s .pre .0 .3, size-short (x .q) (s .pre .0 .0) (x .m) (s .pre .0 .1), s .pre .0 .4, s .pre .0 .0),
       usable-formed (x .q) (x .m) (now (x .work)) (now (x .candidate)) (x .complete) (x .clash) (c .before .if2 .left) (c .before .before .if1 .left)
           (s .pre .1 .2),
     )
@@ -143,7 +144,7 @@ settle-requires c κs =
     let clear = c .before .before .before .before .before .before .if3 .left in
     let ready = collects at false clear .0 .ready in
     let k = size (x .q) (x .m) in (
-      (s .pre .0 .0, s .pre .0 .1, s .pre .0 .3, s .pre .1 .0, s .pre .1 .1 ∙ s .pre .0 .2 .long ∙ full-places (x .q) (s .pre .0 .0)),
+      (s .pre .0 .0, s .pre .0 .1, s .pre .0 .3, s .pre .1 .0, s .pre .1 .1 ∙ s .pre .0 .2 .long ∙ full-places (x .q) (short-curve (x .q) (s .pre .0 .0))),
       (
         ready .formed,
         rank-full (fieldOf (x .q)) (flat 64 k (at .collect .last .1 .1 .1 .1 .1 .1 .0)) k (sym (ready .ranked)

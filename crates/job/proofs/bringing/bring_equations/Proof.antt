@@ -7,6 +7,7 @@ use Prim.Native.Nat.{_+_, _-_}
 use native.Mathlib.Omega.{arith}
 use denote.Ref.{now}
 use lib.ListN.{length, getD}
+use Rattle.field.proofs.Curves.{short-sizes}
 use Rattle.field.proofs.Fields.{fieldOf}
 use Rattle.poly.proofs.Solutions.{rank-le}
 use Rattle.poly.specs.inner.Systems.{flat}
@@ -80,9 +81,10 @@ step-requires c κs =
       (
         h .over,
         omega (arith, h .long),
-        omega (arith, h .order, mul-le-mul-left (x .q) (h .few)),
+        omega (arith, h .order, mul-le-mul-left (x .q) (h .few), mul-le-mul-left (x .q) (short-sizes (x .q) (s .pre .0 .4) .symbols)),
         s .pre .0 .1,
         omega (arith, s .pre .0 .3, w .ranked, rank-le (fieldOf (x .q)) (flat 64 (size (x .q) (x .m)) (l .work)) (size (x .q) (x .m))),
+        s .pre .0 .4,
       ),
       ((λ n. ⊎-elim (λ e. absurd (n e)) (λ e. e) (h .value (l .p) pl)), w .formed),
     )

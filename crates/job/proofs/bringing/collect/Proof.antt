@@ -3,19 +3,18 @@
 use mathlib.Core.List.{List}
 use mathlib.Core.Path.{_≡_, sym, subst}
 use Prim.Native.Nat.{ℕ}
-use native.Mathlib.Nat.{mul-le-mul-left}
 use native.Mathlib.Omega.{arith}
 use borrow.Author.Needs.{needs}
 use denote.Ref.{now}
 use lib.ListN.{take, replicate}
 use lib.Seq.{length-take-le}
-use Rattle.field.proofs.Curves.{sizes}
 use Rattle.poly.specs.inner.Systems.{flat, rank}
 use Rattle.code.specs.Points.{columnsOf}
 use Rattle.code.specs.Terms.{size}
 use Rattle.code.specs.inner.Recovering.{BrokenOver}
 use Rattle.code.proofs.AllColumns.{columns-are, columns-fit, columns-long}
 use Rattle.code.proofs.GridEntries.{entries-taken}
+use Rattle.code.proofs.Stages.{columns-short}
 use Rattle.job.specs.inner.Bringing.{Collects}
 use Rattle.job.proofs.bringing.collect.Statement.{statement}
 use Rattle.job.proofs.bringing.collect.Tie as tie
@@ -24,7 +23,7 @@ use Rattle.job.proofs.bringing.collect.Tie as tie
 columns : (c : tie.After-rank)
     → take (c .before .before .before .at .result .symbols) (c .before .before .before .before .columns .result) ≡ columnsOf
     (c .before .before .before .before .before .before .before .before .before .before .args .q)
-columns c = columns-are _ (c .before .before .before .before .before .before .before .before .before .before .pre .0 .0 .over .curve) _ _
+columns c = columns-are _ (c .before .before .before .before .before .before .before .before .before .before .pre .0 .4) _ _
     (c .before .before .before .at .ensures) (c .before .before .before .before .columns .ensures)
 
 -- the rows that are counted
@@ -43,7 +42,7 @@ entries-requires c κs =
     let s = c .before .before .before in
     let h = s .pre .0 .0 in (
       h .over .curve,
-      omega (arith, h .order, mul-le-mul-left (s .args .q) (h .few), sizes (s .args .q) (h .over .curve) .high),
+      omega (arith, h .order, columns-short (s .args .q) (columnsOf (s .args .q)) (h .over) (s .pre .0 .4) (h .few)),
       omega (arith, s .pre .0 .2),
     )
 
@@ -61,12 +60,12 @@ rank-requires c κs = search needs
 
 array-share-prefix-columns : tie.Need-array-share-prefix-columns
 array-share-prefix-columns c = columns-fit _
-    (c .before .before .before .before .before .before .before .before .before .before .pre .0 .0 .over .curve) _ _
+    (c .before .before .before .before .before .before .before .before .before .before .pre .0 .4) _ _
     (c .before .before .before .at .ensures) (c .before .before .before .before .columns .ensures)
 
 slice-aggregate-bring-equations : tie.Need-slice-aggregate-bring-equations
 slice-aggregate-bring-equations c = columns-long _
-    (c .before .before .before .before .before .before .before .before .before .before .before .pre .0 .0 .over .curve) _ _
+    (c .before .before .before .before .before .before .before .before .before .before .before .pre .0 .4) _ _
     (c .before .before .before .before .at .ensures) (c .before .before .before .before .before .columns .ensures)
 
 array-share-prefix-entries : tie.Need-array-share-prefix-entries
@@ -90,6 +89,7 @@ bring-equations-requires c κs =
         is,
         s .pre .0 .3,
         s .pre .0 .2,
+        s .pre .0 .4,
       ),
       record { formed = s .pre .1; ranked = rows (c .before .before .before) },
     )

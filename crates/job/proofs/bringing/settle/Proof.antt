@@ -7,7 +7,7 @@ use native.Mathlib.Omega.{arith}
 use borrow.Author.Needs.{needs}
 use denote.Ref.{now}
 use lib.ListN.{take}
-use Rattle.field.proofs.Curves.{sizes}
+use Rattle.field.proofs.Curves.{short-curve, short-not-long}
 use Rattle.field.proofs.Fields.{fieldOf}
 use Rattle.poly.specs.inner.Systems.{flat, WellFormed, Solution, Solves}
 use Rattle.poly.proofs.Substitution.{solves-full}
@@ -42,7 +42,7 @@ columns-requires : tie.Need-columns-requires
 columns-requires c κs = search needs
 
 at-requires : tie.Need-at-requires
-at-requires c κs = search needs
+at-requires c κs = short-curve _ (c .before .before .before .before .pre .0 .0)
 
 cast-c : tie.Need-cast-c
 cast-c c = search needs
@@ -53,6 +53,7 @@ solve-requires c κs =
     let x = s .args in (
       subst (λ (k : ℕ). WellFormed (fieldOf (x .q)) 64 k (now (x .work))) (sym (s .pre .0 .2)) (s .pre .1 .0),
       omega (arith, s .pre .0 .2, s .pre .0 .3),
+      short-not-long (x .q) (s .pre .0 .0),
     )
 
 array-share-prefix-columns : tie.Need-array-share-prefix-columns
@@ -72,15 +73,18 @@ write-word-requires c κs =
     let e = c .before .before .before .before .before .solve in
     let candidate = e .last .1 .1 .1 .1 .0 in
     let long = e .kept .1 .1 .1 .1 .0 ∙ s .pre .0 .3 in
-    subst (λ (l : List ℕ). Encodable q l (x .m) candidate (now (x .whole))) (sym (columns (c .before .before .before)))
-    (record {
-      over = full-columns q (s .pre .0 .0);
-      few = omega (arith, length-upTo (q * q), sizes q (s .pre .0 .0) .symbols);
-      order = omega (arith, s .pre .0 .1, full-places q (s .pre .0 .0));
-      long = long;
-      symbols = solution-below q (x .m) (now (x .work)) candidate (solution (c .before .before .before .before .before)) long;
-      room = s .pre .0 .4 ∙ sym (full-places q (s .pre .0 .0));
-    })
+    let curve = short-curve q (s .pre .0 .0) in (
+      subst (λ (l : List ℕ). Encodable q l (x .m) candidate (now (x .whole))) (sym (columns (c .before .before .before)))
+          (record {
+            over = full-columns q curve;
+            few = omega (arith, length-upTo (q * q));
+            order = omega (arith, s .pre .0 .1, full-places q curve);
+            long = long;
+            symbols = solution-below q (x .m) (now (x .work)) candidate (solution (c .before .before .before .before .before)) long;
+            room = s .pre .0 .4 ∙ sym (full-places q curve);
+          }),
+      s .pre .0 .0,
+    )
 
 same-length : tie.Need-same-length
 same-length c = search needs

@@ -5,13 +5,13 @@ use Prim.Native.Nat.{_*_}
 use native.Mathlib.Omega.{arith}
 use borrow.Author.Needs.{needs}
 use denote.Ref.{now}
-use Rattle.field.proofs.Curves.{sizes}
+use Rattle.field.proofs.Curves.{short-sizes}
 use Rattle.job.proofs.Formed.{formed-not, formed-rows}
 use Rattle.job.proofs.work.formed.Statement.{statement}
 use Rattle.job.proofs.work.formed.Tie as tie
 
 mul-first-bad : tie.Need-mul-first-bad
-mul-first-bad c = omega (arith, sizes _ (c .before .pre .0) .symbols)
+mul-first-bad c = omega (arith, short-sizes _ (c .before .pre .0) .symbols)
 
 first-bad-requires : tie.Need-first-bad-requires
 first-bad-requires c κs = search needs

@@ -9,7 +9,7 @@ use denote.Ref.{now}
 use lib.ListN.{length}
 use lib.Seq.{length-take-le}
 use Rattle.field.specs.declared.curve.Curve.{Curve}
-use Rattle.field.proofs.Curves.{sizes}
+use Rattle.field.proofs.Curves.{short-curve, short-sizes}
 use Rattle.poly.proofs.Entries.{zeros}
 use Rattle.code.specs.Terms.{size}
 use Rattle.mend.specs.inner.Locating.{reach, Locator}
@@ -31,7 +31,7 @@ reached c =
 reached-le : (c : tie.After-at) → c .before .before .before .before .before .before .before .before .args .t + c .at .result .genus ≤ 64
 reached-le c =
     let s = c .before .before .before .before .before .before .before .before in
-    omega (arith, reached c, reach-lt (s .args .q) (s .args .m) (s .pre .0 .order), sizes (s .args .q) (s .pre .0 .curve) .points)
+    omega (arith, reached c, reach-lt (s .args .q) (s .args .m) (s .pre .0 .order), short-sizes (s .args .q) (s .pre .0 .curve) .points)
 
 -- k of s, for which the array has room
 sized : (c : tie.After-size) → let x = c .before .before .before .before .before .before .before .before .before .before .args in
@@ -60,9 +60,11 @@ located c b e =
 unencode-requires : tie.Need-unencode-requires
 unencode-requires c κs =
     let s = c .before .before .before in
-    let x = s .args in
-    readable (x .q) (x .m) (now (x .word)) (now (x .message)) (s .pre .0 .curve) (omega (arith, s .pre .0 .order))
-    (word-accepted (x .q) (x .m) (now (x .word)) (s .pre .0) (now (x .message)) (s .pre .2))
+    let x = s .args in (
+      readable (x .q) (x .m) (now (x .word)) (now (x .message)) (short-curve _ (s .pre .0 .curve)) (omega (arith, s .pre .0 .order))
+          (word-accepted (x .q) (x .m) (now (x .word)) (s .pre .0) (now (x .message)) (s .pre .2)),
+      s .pre .0 .curve,
+    )
 
 enum-told : tie.Need-enum-told
 enum-told c = search needs
@@ -79,13 +81,13 @@ returns c =
     (c .enum-told .given .1)
 
 at-requires : tie.Need-at-requires
-at-requires c κs = search needs
+at-requires c κs = short-curve _ (c .before .before .before .before .before .before .before .pre .0 .curve)
 
 add-s : tie.Need-add-s
 add-s c = omega (arith, reached-le (c .before))
 
 size-requires : tie.Need-size-requires
-size-requires c κs = search needs
+size-requires c κs = short-curve _ (c .before .before .before .before .before .before .before .before .before .pre .0 .curve)
 
 array-borrow-prefix-found : tie.Need-array-borrow-prefix-found
 array-borrow-prefix-found c = room c

@@ -9,7 +9,7 @@ use denote.Ref.{now}
 use lib.ListN.{length, take}
 use lib.Seq.{length-take-le}
 use Rattle.field.proofs.Outcomes.{not-done}
-use Rattle.field.proofs.Curves.{sizes}
+use Rattle.field.proofs.Curves.{sizes, short-curve, short-sizes}
 use Rattle.field.proofs.Fields.{fieldOf}
 use Rattle.poly.proofs.Entries.{zeros}
 use Rattle.code.specs.Answers.{answered}
@@ -28,7 +28,7 @@ use Rattle.mend.proofs.candidate.read_rest.Tie as tie
 
 -- the word fits the array
 room : (s : tie.Start) → length (now (s .args .word)) ≤ 64
-room s = omega (arith, s .pre .0 .long, sizes (s .args .q) (s .pre .0 .curve) .points)
+room s = omega (arith, s .pre .0 .long, short-sizes (s .args .q) (s .pre .0 .curve) .points)
 
 -- as much as it is long is lent, twice, and comes back
 lent : (s : tie.Start) → length (take (length (now (s .args .word))) (zeros 64)) ≡ length (now (s .args .word))
@@ -60,7 +60,7 @@ answer c =
     let x = s .args in
     let e = c .before .before .before .before in
     ap (λ (Q : ℕ). answerOf (reading Q (size (x .q) (x .m)) (wordOf (x .q) (columnsOf (x .q)) (x .m)) (e .erase .last .1 .0)) (now (x .message)))
-    (sym (sizes (x .q) (s .pre .0 .curve) .size))
+    (sym (sizes (x .q) (short-curve _ (s .pre .0 .curve)) .size))
     ∙ ap (λ (l : List ℕ). answerOf (reading (fieldOf (x .q) .size) (size (x .q) (x .m)) (wordOf (x .q) (columnsOf (x .q)) (x .m)) l) (now
     (x .message)))
     (sym (front-again _ (e .erase .last .1 .0) _ (erased-long e)))
@@ -76,7 +76,7 @@ encode-requires : tie.Need-encode-requires
 encode-requires c κs =
     let s = c .before .before .before .before in
     let x = s .args in
-    locator-encodable (x .q) (x .m) (now (x .word)) (s .pre .0) (x .s) (now (x .locator)) _ (s .pre .1) (s .pre .2) (lent s)
+    (locator-encodable (x .q) (x .m) (now (x .word)) (s .pre .0) (x .s) (now (x .locator)) _ (s .pre .1) (s .pre .2) (lent s), s .pre .0 .curve)
 
 array-borrow-prefix-located-2 : tie.Need-array-borrow-prefix-located-2
 array-borrow-prefix-located-2 c = front-fits _ (c .before .encode .last .1 .1 .1 .0) _ (encoded-long (c .before))
@@ -101,6 +101,7 @@ recover-requires c κs =
       subst (BrokenOver (x .q) (columnsOf (x .q)) (x .m)) (sym (front-again _ (e .erase .last .1 .0) _ (erased-long e)))
           (erased-broken (x .q) (x .m) (now (x .word)) (s .pre .0) (reach (x .q) (x .m)) (now (x .locator)) _ (erased e)),
       s .pre .3,
+      s .pre .0 .curve,
     )
 
 enum-told : tie.Need-enum-told

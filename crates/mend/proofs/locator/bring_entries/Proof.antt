@@ -6,7 +6,7 @@ use native.Mathlib.Nat.{le-antisymm}
 use native.Mathlib.Omega.{arith}
 use denote.Ref.{now}
 use Rattle.field.specs.declared.curve.Curve.{Curve}
-use Rattle.field.proofs.Curves.{sizes}
+use Rattle.field.proofs.Curves.{short-curve, short-sizes, short-not-long}
 use Rattle.code.proofs.GridEntries.{split-sum}
 use Rattle.code.proofs.Weights.{small-weight}
 use Rattle.mend.specs.inner.Products.{gridFrom}
@@ -39,16 +39,16 @@ x-small c =
       split-sum (s .args .q) (c .before .before .loop .e) _ _ (c .divide .ensures),
       c .before .loop-test .taken,
       s .pre .0 .1,
-      sizes (s .args .q) (s .pre .0 .0) .points,
+      short-sizes (s .args .q) (s .pre .0 .0) .points,
     )
 
-y-small : (c : tie.After-divide Inv-loop μ-loop) → c .before .before .before .at .result .«weight_y» * c .divide .result .rest ≤ 20
+y-small : (c : tie.After-divide Inv-loop μ-loop) → c .before .before .before .at .result .«weight_y» * c .divide .result .rest ≤ 72
 y-small c =
     let s = c .before .before .before .before .before .before .before in
-    omega (arith, in-y c, small-weight (s .args .q) (s .pre .0 .0) _ _ (c .divide .ensures .1))
+    omega (arith, in-y c, small-weight (s .args .q) (short-curve _ (s .pre .0 .0)) _ _ (c .divide .ensures .1))
 
 at-requires : tie.Need-at-requires Inv-loop μ-loop
-at-requires c κs = c .before .before .before .pre .0 .0
+at-requires c κs = short-curve _ (c .before .before .before .pre .0 .0)
 
 loop-holds : tie.Need-loop-holds Inv-loop μ-loop
 loop-holds c =
@@ -60,12 +60,12 @@ loop-holds c =
     )
 
 divide-requires : tie.Need-divide-requires Inv-loop μ-loop
-divide-requires c κs = c .before .before .before .before .before .before .pre .0 .0
+divide-requires c κs = short-curve _ (c .before .before .before .before .before .before .pre .0 .0)
 
 add-if1 : tie.Need-add-if1 Inv-loop μ-loop
 add-if1 c =
     let s = c .before .before .before .before .before .before .before in
-    omega (arith, s .pre .0 .2, s .pre .0 .1, sizes (s .args .q) (s .pre .0 .0) .points)
+    omega (arith, s .pre .0 .2, s .pre .0 .1, short-sizes (s .args .q) (s .pre .0 .0) .points)
 
 mul-if1 : tie.Need-mul-if1 Inv-loop μ-loop
 mul-if1 c = omega (arith, x-small (c .before .before))
@@ -80,8 +80,9 @@ bring-entry-requires : tie.Need-bring-entry-requires Inv-loop μ-loop
 bring-entry-requires c κs =
     let s = c .before .before .before .before .before .before .before .before .before .before .before .before .before in
     let x = s .args in
-    let l = c .before .before .before .before .before .before .before .before .loop in (
-      bring-ready (x .q) (x .m) (x .s) (x .n) (now (x .starts)) (now (x .grids)) (s .pre .0 .3) (l .e) (l .work) (l .inv .1),
+    let l = c .before .before .before .before .before .before .before .before .loop in
+    let ready = bring-ready (x .q) (x .m) (x .s) (x .n) (now (x .starts)) (now (x .grids)) (s .pre .0 .3) (l .e) (l .work) (l .inv .1) in (
+      (ready .0, ready .1, short-not-long (x .q) (s .pre .0 .0)),
       (
         omega (arith, s .pre .0 .5, c .before .before .before .before .before .before .before .loop-test .taken),
         λ i b. s .pre .1 .0 i (l .e) (omega (arith, s .pre .0 .3)) (c .before .before .before .before .before .before .before .loop-test .taken),

@@ -54,6 +54,7 @@ bring-in-requires c κs =
         s .pre .0 .0,
         row-equation (x .q) (length (now (x .starts))) (entryFrom (now (x .starts)) (now (x .grids)) (x .e)) _ room (gathered g)
             (λ n l. s .pre .1 .1 n l .1),
+        s .pre .0 .2,
       ),
       (omega arith, omega (arith, room), omega (arith, room, g .gather-listed .kept .1 .1 .0)),
     )

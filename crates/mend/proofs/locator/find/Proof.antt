@@ -6,7 +6,7 @@ use borrow.Author.Needs.{needs}
 use denote.Ref.{now}
 use lib.ListN.{length, take, length-replicate}
 use lib.Seq.{length-take-le}
-use Rattle.field.proofs.Curves.{sizes}
+use Rattle.field.proofs.Curves.{short-curve, short-sizes, short-not-long}
 use Rattle.field.proofs.Fields.{fieldOf}
 use Rattle.poly.specs.inner.Systems.{WellFormed}
 use Rattle.poly.proofs.Entries.{getD-zeros}
@@ -45,7 +45,7 @@ prepared c =
     }
 
 divide-requires : tie.Need-divide-requires
-divide-requires c κs = search needs
+divide-requires c κs = short-curve _ (c .before .before .pre .0 .curve)
 
 add-count : tie.Need-add-count
 add-count c =
@@ -106,7 +106,7 @@ bring-entries-requires c κs =
         omega (
           arith,
           s .pre .0 .long,
-          sizes (x .q) (s .pre .0 .curve) .points,
+          short-sizes (x .q) (s .pre .0 .curve) .points,
           c .before .before .before .before .before .before .before .write-products .kept .1 .1 .1 .0,
           length-replicate {A = ℕ} 2304 0,
         ),
@@ -133,6 +133,7 @@ solve-nonzero-requires c κs =
         subst (λ (k : ℕ). WellFormed (fieldOf (x .q)) 32 k (b .bring-entries .last .1 .1 .1 .1 .1 .1 .0)) (sym (s .pre .2))
             (b .bring-entries .ensures .formed),
         omega arith,
+        short-not-long (x .q) (s .pre .0 .curve),
       ),
       (omega arith, omega (arith, low, s .pre .2), omega (arith, low, s .pre .2)),
     )

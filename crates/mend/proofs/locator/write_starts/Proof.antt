@@ -4,6 +4,7 @@ use Prim.Native.Nat.{_+_, _-_, _*_, _≤_, _<_}
 use native.Mathlib.Omega.{arith}
 use denote.Ref.{now}
 use lib.ListN.{length}
+use Rattle.field.proofs.Curves.{short-curve}
 use Rattle.poly.specs.inner.Ranges.{writes}
 use Rattle.poly.proofs.Writes.{length-writes, writes-turn}
 use Rattle.code.specs.Terms.{size}
@@ -37,17 +38,17 @@ small c =
     (c .before .entry .ensures (s .args .s) n) (c .divide .ensures) (s .pre .1) (s .args .count) (s .pre .2)
 
 size-requires : tie.Need-size-requires Inv-loop μ-loop
-size-requires c κs = c .before .pre .0
+size-requires c κs = short-curve _ (c .before .pre .0)
 
 loop-holds : tie.Need-loop-holds Inv-loop μ-loop
 unfolding writes
 loop-holds c = (omega arith, refl)
 
 entry-requires : tie.Need-entry-requires Inv-loop μ-loop
-entry-requires c κs = let s = c .before .before .before .before in (s .pre .0, omega (arith, number c, s .pre .3))
+entry-requires c κs = let s = c .before .before .before .before in (short-curve _ (s .pre .0), omega (arith, number c, s .pre .3))
 
 divide-requires : tie.Need-divide-requires Inv-loop μ-loop
-divide-requires c κs = c .before .before .before .before .before .pre .0
+divide-requires c κs = short-curve _ (c .before .before .before .before .before .pre .0)
 
 mul-starts : tie.Need-mul-starts Inv-loop μ-loop
 mul-starts c = omega (arith, c .before .before .before .before .before .before .pre .2)

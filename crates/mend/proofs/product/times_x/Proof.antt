@@ -4,7 +4,7 @@ use borrow.Author.Needs.{needs}
 use denote.Ref.{now}
 use Prim.Native.Nat.{ℕ, _-_}
 use lib.ListN.{length-replicate}
-use Rattle.field.proofs.Curves.{sizes}
+use Rattle.field.proofs.Curves.{short-curve, short-sizes}
 use Rattle.poly.proofs.Entries.{zeros}
 use Rattle.poly.proofs.Parts.{length-part}
 use Rattle.mend.proofs.Rotations.{rows-two, row-room, mid-long, mid-part-long, times-x-written}
@@ -12,7 +12,7 @@ use Rattle.mend.proofs.product.times_x.Statement.{statement}
 use Rattle.mend.proofs.product.times_x.Tie as tie
 
 sub-last : tie.Need-sub-last
-sub-last c = let s = c .before in omega (arith, rows-two (s .args .q) (s .pre .0), s .pre .1)
+sub-last c = let s = c .before in omega (arith, rows-two (s .args .q) (short-curve _ (s .pre .0)), s .pre .1)
 
 sub-copy : tie.Need-sub-copy
 sub-copy c = row-room (c .before .args .q) (c .before .pre .0)
@@ -28,7 +28,7 @@ copy-requires c κs =
     let s = c .before .before in
     let a = s .args in
     let long = length-part (zeros 64) (a .q) 64 (row-room (a .q) (s .pre .0)) (omega (arith, length-replicate {A = ℕ} 64 0)) in
-    (omega (arith, s .pre .2), omega (arith, long, s .pre .1, sizes (a .q) (s .pre .0) .points))
+    (omega (arith, s .pre .2), omega (arith, long, s .pre .1, short-sizes (a .q) (s .pre .0) .points))
 
 sub-add : tie.Need-sub-add
 sub-add c = search needs
@@ -55,11 +55,11 @@ add-requires : tie.Need-add-requires
 add-requires c κs =
     let s = c .before .before .before .before .before .before in
     let a = s .args in
-    let two = rows-two (a .q) (s .pre .0) in
+    let two = rows-two (a .q) (short-curve _ (s .pre .0)) in
     let long = mid-part-long (a .q) (a .n) (s .pre .0) (s .pre .1) (now (a .grid)) (s .pre .2) (s .pre .3) _
     (c .before .before .before .copy .ensures) in (
       omega (arith, length-part (now (a .grid)) (a .n - a .q) (a .n) (omega arith) (s .pre .2), two, s .pre .1),
-      omega (arith, long, two, s .pre .1, sizes (a .q) (s .pre .0) .points),
+      omega (arith, long, two, s .pre .1, short-sizes (a .q) (s .pre .0) .points),
     )
 
 returns : tie.Need-returns

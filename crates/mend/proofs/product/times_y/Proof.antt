@@ -4,7 +4,7 @@ use Prim.Native.Nat.{_-_, _*_, _/_, _%_, _≤_, _<_}
 use native.Mathlib.Nat.{div-lt-iff-lt-mul, mod-lt}
 use native.Mathlib.Omega.{arith}
 use denote.Ref.{now}
-use Rattle.field.proofs.Curves.{sizes}
+use Rattle.field.proofs.Curves.{sizes, short-curve, short-sizes}
 use Rattle.poly.specs.inner.Ranges.{writes}
 use Rattle.poly.proofs.Writes.{writes-turn, writes-end}
 use Rattle.mend.specs.inner.Products.{timesYAt}
@@ -22,14 +22,14 @@ unfolding writes
 loop-holds c = (omega arith, refl)
 
 divide-requires : tie.Need-divide-requires Inv-loop μ-loop
-divide-requires c κs = c .before .before .before .pre .0
+divide-requires c κs = short-curve _ (c .before .before .before .pre .0)
 
 times-y-at-requires : tie.Need-times-y-at-requires Inv-loop μ-loop
 times-y-at-requires c κs =
     let s = c .before .before .before .before in
     let a = s .args in
     let e = c .before .before .loop .e in
-    let pos : 0 < a .q = omega (arith, sizes (a .q) (s .pre .0) .low) in
+    let pos : 0 < a .q = omega (arith, sizes (a .q) (short-curve _ (s .pre .0)) .low) in
     let within : e < a .q * a .q * a .q = omega (arith, c .before .loop-test .taken, s .pre .1) in (
       s .pre .0,
       rw (c .divide .ensures .0) (div-lt-iff-lt-mul {x = e} {y = a .q * a .q} pos .1 within),
@@ -40,12 +40,12 @@ times-y-at-requires c κs =
 array-write-r : tie.Need-array-write-r Inv-loop μ-loop
 array-write-r c =
     let s = c .before .before .before .before .before in
-    omega (arith, c .before .before .loop-test .taken, s .pre .1, sizes (s .args .q) (s .pre .0) .points)
+    omega (arith, c .before .before .loop-test .taken, s .pre .1, short-sizes (s .args .q) (s .pre .0) .points)
 
 add-e : tie.Need-add-e Inv-loop μ-loop
 add-e c =
     let s = c .before .before .before .before .before in
-    omega (arith, c .before .before .loop-test .taken, s .pre .1, sizes (s .args .q) (s .pre .0) .points)
+    omega (arith, c .before .before .loop-test .taken, s .pre .1, short-sizes (s .args .q) (s .pre .0) .points)
 
 loop-less : tie.Need-loop-less Inv-loop μ-loop
 loop-less c = omega arith

@@ -7,13 +7,14 @@ use borrow.Author.Tests.{eq-eqb, ne-eqb}
 use denote.Ref.{now}
 use lib.ListN.{length, getD}
 use Rattle.field.specs.Plus.{plus}
+use Rattle.field.proofs.Curves.{short-curve}
 use Rattle.mend.proofs.ProductGrids.{entry-lt}
 use Rattle.mend.proofs.product.times_y_at.Statement.{statement}
 use Rattle.mend.proofs.product.times_y_at.Tie as tie
 
 -- the entry is within the grid
 within : (s : tie.Start) → s .args .q * s .args .i + s .args .j < length (now (s .args .grid))
-within s = omega (arith, entry-lt (s .args .q) (s .pre .0) (s .args .i) (s .args .j) (s .pre .1) (s .pre .2), s .pre .3)
+within s = omega (arith, entry-lt (s .args .q) (short-curve _ (s .pre .0)) (s .args .i) (s .args .j) (s .pre .1) (s .pre .2), s .pre .3)
 
 mul-row : tie.Need-mul-row
 mul-row c = omega (arith, within (c .before))

@@ -4,7 +4,7 @@ use native.Mathlib.Omega.{arith}
 use borrow.Author.Needs.{needs}
 use denote.Ref.{now}
 use lib.ListN.{length}
-use Rattle.field.proofs.Curves.{sizes}
+use Rattle.field.proofs.Curves.{sizes, short-curve}
 use Rattle.mend.proofs.ProductGrids.{entry-lt}
 use Rattle.mend.proofs.product.top.Statement.{statement}
 use Rattle.mend.proofs.product.top.Tie as tie
@@ -13,13 +13,14 @@ use Rattle.mend.proofs.product.top.Tie as tie
 within : (s : tie.Start) → s .args .q * s .args .i + (s .args .q - 1) < length (now (s .args .grid))
 within s =
     let a = s .args in
-    omega (arith, entry-lt (a .q) (s .pre .0) (a .i) (a .q - 1) (s .pre .1) (omega (arith, sizes (a .q) (s .pre .0) .low)), s .pre .2)
+    let curve = short-curve (a .q) (s .pre .0) in
+    omega (arith, entry-lt (a .q) curve (a .i) (a .q - 1) (s .pre .1) (omega (arith, sizes (a .q) curve .low)), s .pre .2)
 
 mul-result : tie.Need-mul-result
 mul-result c = omega (arith, within c)
 
 sub-result : tie.Need-sub-result
-sub-result c = omega (arith, sizes (c .args .q) (c .pre .0) .low)
+sub-result c = omega (arith, sizes (c .args .q) (short-curve _ (c .pre .0)) .low)
 
 add-result : tie.Need-add-result
 add-result c = omega (arith, within c)

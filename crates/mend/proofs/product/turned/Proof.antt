@@ -4,13 +4,13 @@ use native.Mathlib.Omega.{arith}
 use borrow.Author.Needs.{needs}
 use borrow.Author.Tests.{eq-eqb, ne-eqb, lt-ltb, le-ltb}
 use Rattle.field.specs.Plus.{plus}
-use Rattle.field.proofs.Curves.{sizes}
+use Rattle.field.proofs.Curves.{short-curve, short-sizes}
 use Rattle.mend.proofs.ProductGrids.{many-columns}
 use Rattle.mend.proofs.product.turned.Statement.{statement}
 use Rattle.mend.proofs.product.turned.Tie as tie
 
 mul-columns : tie.Need-mul-columns
-mul-columns c = omega (arith, sizes (c .before .args .q) (c .before .pre .0) .symbols)
+mul-columns c = omega (arith, short-sizes (c .before .args .q) (c .before .pre .0) .symbols)
 
 add-if2 : tie.Need-add-if2
 add-if2 c = search needs
@@ -19,13 +19,13 @@ add-top : tie.Need-add-top
 add-top c = search needs
 
 sub-top : tie.Need-sub-top
-sub-top c = let s = c .before .before .before in many-columns (s .args .q) (s .pre .0)
+sub-top c = let s = c .before .before .before in many-columns (s .args .q) (short-curve _ (s .pre .0))
 
 add-top-2 : tie.Need-add-top-2
 add-top-2 c = omega (
   arith,
   c .before .before .before .pre .1,
-  sizes (c .before .before .before .args .q)
+  short-sizes (c .before .before .before .args .q)
       (c .before .before .before .pre .0) .symbols,
 )
 

@@ -6,8 +6,8 @@ use native.Mathlib.Nat.{mul-suc, mul-le-mul-left, le-antisymm}
 use native.Mathlib.Omega.{arith}
 use denote.Ref.{now}
 use lib.ListN.{length, length-replicate}
-use Rattle.field.proofs.Curves.{sizes}
 use Rattle.field.specs.Curve.{IsCurve}
+use Rattle.field.proofs.Curves.{short-curve, short-sizes}
 use Rattle.poly.proofs.Entries.{zeros}
 use Rattle.poly.proofs.Multiples.{stored-all}
 use Rattle.poly.proofs.Parts.{length-part}
@@ -27,9 +27,9 @@ abbrev μ-loop : tie.MeasureT-loop
 
 -- what the loop has so far, and that the next block fits
 so : (c : tie.In-loop Inv-loop μ-loop) → let s = c .before .before .before .before .before .before .before in let l = c .before .loop in
-    Multiplying (s .args .q) (columnsOf (s .args .q)) (full-columns (s .args .q) (s .pre .0)) (length-upTo (s .args .q * s .args .q))
+    Multiplying (s .args .q) (columnsOf (s .args .q)) (full-columns (s .args .q) (short-curve _ (s .pre .0))) (length-upTo (s .args .q * s .args .q))
     (now (s .args .first)) (now (s .args .out)) (l .out) (l .grid) (l .i) (l .at)
-so c = let s = c .before .before .before .before .before .before .before in c .before .loop .inv .1 (s .pre .0)
+so c = let s = c .before .before .before .before .before .before .before in c .before .loop .inv .1 (short-curve _ (s .pre .0))
 
 fits : (c : tie.In-loop Inv-loop μ-loop) → c .before .loop .at + 64 ≤ length (c .before .loop .out)
 fits c =
@@ -84,7 +84,7 @@ times-x-requires : tie.Need-times-x-requires Inv-loop μ-loop
 times-x-requires c κs =
     let s = c .before .before .before .before .before .before .before .before .before .before .before .before .before in
     let h = so (c .before .before .before .before .before .before) in
-    (s .pre .0, s .pre .1, omega (arith, h .grid-long, s .pre .1, sizes (s .args .q) (s .pre .0) .points), h .symbols)
+    (s .pre .0, s .pre .1, omega (arith, h .grid-long, s .pre .1, short-sizes (s .args .q) (s .pre .0) .points), h .symbols)
 
 add-i : tie.Need-add-i Inv-loop μ-loop
 add-i c = omega (arith, fits (c .before .before .before .before .before .before .before))
@@ -105,14 +105,14 @@ loop-again c =
     )
 
 same-length : tie.Need-same-length Inv-loop μ-loop
-same-length c = let s = c .before .before .before .before .before .before .before in c .before .loop .inv .1 (s .pre .0) .long
+same-length c = let s = c .before .before .before .before .before .before .before in c .before .loop .inv .1 (short-curve _ (s .pre .0)) .long
 
 returns : tie.Need-returns Inv-loop μ-loop
 returns c =
     let s = c .before .before .before .before .before .before .before in
     let l = c .before .loop in
     let e : l .i ≡ s .args .count = le-antisymm (l .inv .0) (c .loop-test .left) in
-    subst (λ (i : ℕ). Multiples (s .args .q) (columnsOf (s .args .q)) (now (s .args .first)) (l .out) i) e (l .inv .1 (s .pre .0) .done)
+    subst (λ (i : ℕ). Multiples (s .args .q) (columnsOf (s .args .q)) (now (s .args .first)) (l .out) i) e (l .inv .1 (short-curve _ (s .pre .0)) .done)
 
 pub write-multiples-spec : {M : Type 1} → statement M
 write-multiples-spec =

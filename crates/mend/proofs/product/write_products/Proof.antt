@@ -6,7 +6,7 @@ use native.Mathlib.Omega.{arith}
 use denote.Ref.{now}
 use lib.ListN.{length}
 use Rattle.field.specs.Curve.{IsCurve}
-use Rattle.field.proofs.Curves.{sizes}
+use Rattle.field.proofs.Curves.{short-curve, short-sizes}
 use Rattle.poly.proofs.Parts.{length-part}
 use Rattle.code.specs.Points.{columnsOf}
 use Rattle.code.proofs.FullColumns.{length-upTo, full-columns, full-places}
@@ -25,9 +25,9 @@ abbrev μ-loop : tie.MeasureT-loop
 
 -- what the loop has so far, and that the next part fits
 so : (c : tie.In-loop Inv-loop μ-loop) → let s = c .before .before .before .before .before in let l = c .before .loop in
-    Producing (s .args .q) (columnsOf (s .args .q)) (full-columns (s .args .q) (s .pre .0 .0)) (length-upTo (s .args .q * s .args .q))
+    Producing (s .args .q) (columnsOf (s .args .q)) (full-columns (s .args .q) (short-curve _ (s .pre .0 .0))) (length-upTo (s .args .q * s .args .q))
     (now (s .args .word)) (s .args .count) (now (s .args .grids)) (l .grids) (l .grid) (l .j) (l .at)
-so c = let s = c .before .before .before .before .before in c .before .loop .inv .1 (s .pre .0 .0)
+so c = let s = c .before .before .before .before .before in c .before .loop .inv .1 (short-curve _ (s .pre .0 .0))
 
 fits : (c : tie.In-loop Inv-loop μ-loop) → let s = c .before .before .before .before .before in
     c .before .loop .at + 64 * s .args .count ≤ length (c .before .loop .grids)
@@ -39,7 +39,7 @@ fits c =
 mul-part : tie.Need-mul-part Inv-loop μ-loop
 mul-part c =
     let s = c .before .before in
-    omega (arith, s .pre .1, one-part (s .args .q) (s .args .count) (s .pre .0 .0))
+    omega (arith, s .pre .1, one-part (s .args .q) (s .args .count) (short-curve _ (s .pre .0 .0)))
 
 interpolate-requires : tie.Need-interpolate-requires Inv-loop μ-loop
 interpolate-requires c κs = c .before .before .pre .0
@@ -91,12 +91,12 @@ times-y-requires : tie.Need-times-y-requires Inv-loop μ-loop
 times-y-requires c κs =
     let s = c .before .before .before .before .before .before .before .before .before .before .before in
     let h = so (c .before .before .before .before .before .before) in
-    (s .pre .0 .0, s .pre .0 .1, omega (arith, h .grid-long, s .pre .0 .1, sizes (s .args .q) (s .pre .0 .0) .points))
+    (s .pre .0 .0, s .pre .0 .1, omega (arith, h .grid-long, s .pre .0 .1, short-sizes (s .args .q) (s .pre .0 .0) .points))
 
 add-j : tie.Need-add-j Inv-loop μ-loop
 add-j c =
     let s = c .before .before .before .before .before .before .before .before .before .before .before .before in
-    omega (arith, c .before .before .before .before .before .before .before .loop-test .taken, sizes (s .args .q) (s .pre .0 .0) .high)
+    omega (arith, c .before .before .before .before .before .before .before .loop-test .taken, short-sizes (s .args .q) (s .pre .0 .0) .high)
 
 loop-less : tie.Need-loop-less Inv-loop μ-loop
 loop-less c = omega arith
@@ -111,14 +111,14 @@ loop-again c =
     (fits (c .before .before .before .before .before .before .before)) in (
       omega arith,
       λ curve. producing-more q (columnsOf q) (full-columns q curve) (length-upTo (q * q)) (length (now (s .args .word)))
-          (s .pre .0 .1 ∙ sym (full-places q curve)) (omega (arith, s .pre .0 .1, sizes q curve .points)) (now (s .args .word)) (s .args .count)
+          (s .pre .0 .1 ∙ sym (full-places q curve)) (omega (arith, s .pre .0 .1, short-sizes q (s .pre .0 .0) .points)) (now (s .args .word)) (s .args .count)
           (now (s .args .grids)) (l .grids) (l .grid) _ _ (l .j) (l .at) (l .inv .1 curve)
           (fits (c .before .before .before .before .before .before .before)) (w .kept .1 .1 .1 .1 .0 ∙ long
           ∙ omega arith) (w .ensures) (c .times-y .ensures),
     )
 
 same-length : tie.Need-same-length Inv-loop μ-loop
-same-length c = let s = c .before .before .before .before .before in c .before .loop .inv .1 (s .pre .0 .0) .long
+same-length c = let s = c .before .before .before .before .before in c .before .loop .inv .1 (short-curve _ (s .pre .0 .0)) .long
 
 returns : tie.Need-returns Inv-loop μ-loop
 returns c =
@@ -126,7 +126,7 @@ returns c =
     let l = c .before .loop in
     let e : l .j ≡ s .args .q = le-antisymm (l .inv .0) (c .loop-test .left) in
     subst (λ (j : ℕ). Products (s .args .q) (columnsOf (s .args .q)) (now (s .args .word)) (s .args .count) (l .grids) j) e
-    (l .inv .1 (s .pre .0 .0) .done)
+    (l .inv .1 (short-curve _ (s .pre .0 .0)) .done)
 
 pub write-products-spec : {M : Type 1} → statement M
 write-products-spec =

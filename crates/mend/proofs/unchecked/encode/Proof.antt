@@ -14,7 +14,7 @@ use Rattle.mend.proofs.unchecked.encode.Tie as tie
 
 -- the columns that are lent
 columns : (c : tie.After-at) → take (c .at .result .symbols) (c .before .columns .result) ≡ columnsOf (c .before .before .before .before .args .q)
-columns c = columns-are _ (c .before .before .before .before .pre .over .curve) _ _ (c .at .ensures) (c .before .columns .ensures)
+columns c = columns-are _ (c .before .before .before .before .pre .1) _ _ (c .at .ensures) (c .before .columns .ensures)
 
 columns-requires : tie.Need-columns-requires
 columns-requires c κs = search needs
@@ -26,19 +26,19 @@ cast-c : tie.Need-cast-c
 cast-c c = search needs
 
 array-share-prefix-columns : tie.Need-array-share-prefix-columns
-array-share-prefix-columns c = columns-fit _ (c .before .before .before .before .before .pre .over .curve) _ _ (c .before .at .ensures)
+array-share-prefix-columns c = columns-fit _ (c .before .before .before .before .before .pre .1) _ _ (c .before .at .ensures)
     (c .before .before .columns .ensures)
 
 slice-aggregate-write-word : tie.Need-slice-aggregate-write-word
 slice-aggregate-write-word c =
-    columns-long _ (c .before .before .before .before .before .before .pre .over .curve) _ _ (c .before .before .at .ensures)
+    columns-long _ (c .before .before .before .before .before .before .pre .1) _ _ (c .before .before .at .ensures)
     (c .before .before .before .columns .ensures)
 
 write-word-requires : tie.Need-write-word-requires
 write-word-requires c κs =
     let s = c .before .before .before .before .before .before .before in
     let x = s .args in
-    subst (λ (l : List ℕ). Encodable (x .q) l (x .m) (now (x .message)) (now (x .word))) (sym (columns (c .before .before .before))) (s .pre)
+    (subst (λ (l : List ℕ). Encodable (x .q) l (x .m) (now (x .message)) (now (x .word))) (sym (columns (c .before .before .before))) (s .pre .0), s .pre .1)
 
 same-length : tie.Need-same-length
 same-length c = search needs

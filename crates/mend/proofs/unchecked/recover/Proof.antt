@@ -20,7 +20,7 @@ use Rattle.mend.proofs.unchecked.recover.Tie as tie
 -- the columns that are lent
 columns : (c : tie.After-at) → take (c .at .result .symbols) (c .before .columns .result) ≡ columnsOf (c .before .before .before .before
     .before .args .q)
-columns c = columns-are _ (c .before .before .before .before .before .pre .0 .over .curve) _ _ (c .at .ensures) (c .before .columns .ensures)
+columns c = columns-are _ (c .before .before .before .before .before .pre .2) _ _ (c .at .ensures) (c .before .columns .ensures)
 
 tree-requires : tie.Need-tree-requires
 tree-requires c κs = search needs
@@ -35,12 +35,12 @@ cast-c : tie.Need-cast-c
 cast-c c = search needs
 
 array-share-prefix-columns : tie.Need-array-share-prefix-columns
-array-share-prefix-columns c = columns-fit _ (c .before .before .before .before .before .before .pre .0 .over .curve) _ _ (c .before .at .ensures)
+array-share-prefix-columns c = columns-fit _ (c .before .before .before .before .before .before .pre .2) _ _ (c .before .at .ensures)
     (c .before .before .columns .ensures)
 
 slice-aggregate-recover-over : tie.Need-slice-aggregate-recover-over
 slice-aggregate-recover-over c =
-    columns-long _ (c .before .before .before .before .before .before .before .pre .0 .over .curve) _ _ (c .before .before .at .ensures)
+    columns-long _ (c .before .before .before .before .before .before .before .pre .2) _ _ (c .before .before .at .ensures)
     (c .before .before .before .columns .ensures)
 
 slice-aggregate-recover-over-2 : tie.Need-slice-aggregate-recover-over-2
@@ -52,7 +52,7 @@ recover-over-requires c κs =
     let x = s .args in
     let tree = c .before .before .before .before .before .before .tree in
     let e = sym (columns (c .before .before .before .before)) in (
-      (subst (λ (l : List ℕ). BrokenOver (x .q) l (x .m) (now (x .word))) e (s .pre .0), sym (ap length e) ∙ length-upTo _, s .pre .1),
+      (subst (λ (l : List ℕ). BrokenOver (x .q) l (x .m) (now (x .word))) e (s .pre .0), sym (ap length e) ∙ length-upTo _, s .pre .1, s .pre .2),
       subst (λ (l : List ℕ). VanishingTree (fieldOf (x .q)) l (tree .result)) e (tree .ensures),
     )
 

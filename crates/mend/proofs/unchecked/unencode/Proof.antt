@@ -16,7 +16,7 @@ use Rattle.mend.proofs.unchecked.unencode.Tie as tie
 -- the columns that are lent
 columns : (c : tie.After-at) → take (c .at .result .symbols) (c .before .columns .result) ≡ columnsOf
     (c .before .before .before .before .before .args .q)
-columns c = columns-are _ (c .before .before .before .before .before .pre .whole .over .curve) _ _ (c .at .ensures) (c .before .columns .ensures)
+columns c = columns-are _ (c .before .before .before .before .before .pre .1) _ _ (c .at .ensures) (c .before .columns .ensures)
 
 tree-requires : tie.Need-tree-requires
 tree-requires c κs = search needs
@@ -31,12 +31,12 @@ cast-c : tie.Need-cast-c
 cast-c c = search needs
 
 array-share-prefix-columns : tie.Need-array-share-prefix-columns
-array-share-prefix-columns c = columns-fit _ (c .before .before .before .before .before .before .pre .whole .over .curve) _ _
+array-share-prefix-columns c = columns-fit _ (c .before .before .before .before .before .before .pre .1) _ _
     (c .before .at .ensures) (c .before .before .columns .ensures)
 
 slice-aggregate-read-word : tie.Need-slice-aggregate-read-word
 slice-aggregate-read-word c =
-    columns-long _ (c .before .before .before .before .before .before .before .pre .whole .over .curve) _ _
+    columns-long _ (c .before .before .before .before .before .before .before .pre .1) _ _
     (c .before .before .at .ensures) (c .before .before .before .columns .ensures)
 
 slice-aggregate-read-word-2 : tie.Need-slice-aggregate-read-word-2
@@ -47,8 +47,11 @@ read-word-requires c κs =
     let s = c .before .before .before .before .before .before .before .before .before in
     let x = s .args in
     let tree = c .before .before .before .before .before .before .tree in
-    subst (λ (l : List ℕ). Readable (x .q) l (x .m) (now (x .word)) (now (x .message)) × VanishingTree (fieldOf (x .q)) l (tree .result))
-    (sym (columns (c .before .before .before .before))) (s .pre, tree .ensures)
+    let e = sym (columns (c .before .before .before .before)) in (
+      subst (λ (l : List ℕ). Readable (x .q) l (x .m) (now (x .word)) (now (x .message))) e (s .pre .0),
+      subst (λ (l : List ℕ). VanishingTree (fieldOf (x .q)) l (tree .result)) e (tree .ensures),
+      s .pre .1,
+    )
 
 same-length : tie.Need-same-length
 same-length c = search needs

@@ -1,7 +1,7 @@
 -- `interpolation::join` meets its contract, by recursion on the number of columns. Assumes nothing.
 use mathlib.Core.Logic.{⊎-elim}
 use mathlib.Core.Path.{sym, _∙_, subst}
-use Prim.Native.Nat.{ℕ, suc, _+_, _*_, _≤_, _<_}
+use Prim.Native.Nat.{ℕ, suc, _+_, _-_, _*_, _≤_, _<_}
 use native.Mathlib.Omega.{arith}
 use borrow.Author.Needs.{needs}
 use borrow.Fn.Kinds.{In}
@@ -18,7 +18,8 @@ use Rattle.poly.proofs.Joins.{left-asks, first-joined, first-alone, fir
 use Rattle.poly.proofs.interpolation.join.Reads as join
 use Rattle.poly.proofs.interpolation.join.Kinds as join-kinds
 use Rattle.poly.proofs.interpolation.+join.Lts-join as join-lts
-use Rattle.poly.proofs.interpolation.combine.Reads as combine-reads
+use Rattle.poly.proofs.interpolation.combine_by_rows.Reads as combine-by-rows-reads
+use Rattle.poly.proofs.interpolation.combine_by_windows.Reads as combine-by-windows-reads
 use Rattle.poly.proofs.interpolation.+join.{statement}
 use Rattle.poly.proofs.interpolation.+join.Tie.{close}
 
@@ -32,7 +33,7 @@ abbrev join-below : ℕ → In 3 join-kinds.ps
 join-below t = and 3 join-kinds.ps (falls 3 join-kinds.ps _<_ μ-join t) join.Pre
 
 abbrev claims : ℕ → join-lts.Claims
-claims t = (join-below t, join.Post, combine-reads.Asked, combine-reads.Learnt)
+claims t = (join-below t, join.Post, combine-by-rows-reads.Asked, combine-by-rows-reads.Learnt, combine-by-windows-reads.Asked, combine-by-windows-reads.Learnt)
 
 -- where the two arms of each `if` meet: the first half is joined, and then both
 once : {t : ℕ} (c : join-lts.Joined1 (claims t) (join-at t) join.Post) → let s = c .before .before .before .before in
@@ -115,7 +116,11 @@ join-join-requires t c κs =
     let columns = now (s .args .columns) in (
       left-falls _ _ _ _ p two (s .pre .0),
       (
-        (left-asks _ _ _ _ p two, omega (arith, length-take-le (half columns) columns (omega arith))),
+        (
+          left-asks _ _ _ _ p two,
+          omega (arith, length-take-le (half columns) columns (omega arith)),
+          λ short. (s .pre .1 .0 .2 short .0, omega (arith, s .pre .1 .0 .2 short .1, length-take-le (half columns) columns (omega arith))),
+        ),
         ((λ n. s .pre .1 .1 .0 .0 (suc n) two .1, s .pre .1 .1 .0 .1), bounds),
       ),
     )
@@ -163,7 +168,11 @@ join-join-requires-2 t c κs =
     rw (part-rest columns h) (omega (arith, length-drop h columns, c .before .before .if2 .taken)) in (
       right-falls _ _ _ _ p two (s .pre .0),
       (
-        (right-asks _ _ _ _ p two (c .before .before .before .if1 .work) (once (c .before .before .before)), more),
+        (
+          right-asks _ _ _ _ p two (c .before .before .before .if1 .work) (once (c .before .before .before)),
+          more,
+          λ short. (s .pre .1 .0 .2 short .0, rw (part-rest columns h) (omega (arith, s .pre .1 .0 .2 short .1, length-drop h columns))),
+        ),
         ((tree, s .pre .1 .1 .0 .1), bounds),
       ),
     )
@@ -202,54 +211,107 @@ join-add-end-2 t c =
     let node : Node (fieldOf (s .args .q)) (now (s .args .tree)) (s .args .at) (now (s .args .columns)) = s .pre .1 .1 .0 .0 1 two .0 in
     omega (arith, node .room, bounds)
 
-join-sub-combine : (t : ℕ) → join-lts.Need-sub-combine (claims t) (join-at t) join.Post
-join-sub-combine t c = omega arith
+join-sub-combine-by-rows : (t : ℕ) → join-lts.Need-sub-combine-by-rows (claims t) (join-at t) join.Post
+join-sub-combine-by-rows t c = omega arith
 
-join-part-combine-start : (t : ℕ) → join-lts.Need-part-combine-start (claims t) (join-at t) join.Post
-join-part-combine-start t c = omega arith
+join-part-combine-by-rows-start : (t : ℕ) → join-lts.Need-part-combine-by-rows-start (claims t) (join-at t) join.Post
+join-part-combine-by-rows-start t c = omega arith
 
-join-part-combine-end : (t : ℕ) → join-lts.Need-part-combine-end (claims t) (join-at t) join.Post
-join-part-combine-end t c =
-    let s = c .before .before .before .before .before in
-    let two = s .pre .1 .0 .1 in
-    let node : Node (fieldOf (s .args .q)) (now (s .args .tree)) (s .args .at) (now (s .args .columns)) = s .pre .1 .1 .0 .0 1 two .0 in
-    omega (arith, node .room)
-
-join-sub-combine-2 : (t : ℕ) → join-lts.Need-sub-combine-2 (claims t) (join-at t) join.Post
-join-sub-combine-2 t c = omega arith
-
-join-part-combine-start-2 : (t : ℕ) → join-lts.Need-part-combine-start-2 (claims t) (join-at t) join.Post
-join-part-combine-start-2 t c = omega arith
-
-join-part-combine-end-2 : (t : ℕ) → join-lts.Need-part-combine-end-2 (claims t) (join-at t) join.Post
-join-part-combine-end-2 t c =
+join-part-combine-by-rows-end : (t : ℕ) → join-lts.Need-part-combine-by-rows-end (claims t) (join-at t) join.Post
+join-part-combine-by-rows-end t c =
     let s = c .before .before .before .before .before .before in
     let two = s .pre .1 .0 .1 in
     let node : Node (fieldOf (s .args .q)) (now (s .args .tree)) (s .args .at) (now (s .args .columns)) = s .pre .1 .1 .0 .0 1 two .0 in
     omega (arith, node .room)
 
-join-combine-requires : (t : ℕ) → join-lts.Need-combine-requires (claims t) (join-at t) join.Post
-join-combine-requires t c κs =
-    let s = c .before .before .before .before .before .before .before .before in
+join-sub-combine-by-rows-2 : (t : ℕ) → join-lts.Need-sub-combine-by-rows-2 (claims t) (join-at t) join.Post
+join-sub-combine-by-rows-2 t c = omega arith
+
+join-part-combine-by-rows-start-2 : (t : ℕ) → join-lts.Need-part-combine-by-rows-start-2 (claims t) (join-at t) join.Post
+join-part-combine-by-rows-start-2 t c = omega arith
+
+join-part-combine-by-rows-end-2 : (t : ℕ) → join-lts.Need-part-combine-by-rows-end-2 (claims t) (join-at t) join.Post
+join-part-combine-by-rows-end-2 t c =
+    let s = c .before .before .before .before .before .before .before in
+    let two = s .pre .1 .0 .1 in
+    let node : Node (fieldOf (s .args .q)) (now (s .args .tree)) (s .args .at) (now (s .args .columns)) = s .pre .1 .1 .0 .0 1 two .0 in
+    omega (arith, node .room)
+
+join-combine-by-rows-requires : (t : ℕ) → join-lts.Need-combine-by-rows-requires (claims t) (join-at t) join.Post
+join-combine-by-rows-requires t c κs =
+    let s = c .before .before .before .before .before .before .before .before .before in
     let p = s .pre .1 .0 .0 in
     let two = s .pre .1 .0 .1 in
-    let d = c .before .before .before in
-    halves _ _ _ _ p two _ (once (d .before)) (d .if2 .work) (twice d)
-    (now (s .args .tree)) (s .args .at) _ _ (s .pre .1 .1 .0 .0 1 two .0) (s .pre .1 .1 .0 .1) (omega arith) (omega arith)
+    let d = c .before .before .before .before in
+    let k : ℕ = length (now (s .args .columns)) - half (now (s .args .columns)) + 1 in
+    let h = halves _ _ _ _ p two _ (once (d .before)) (d .if2 .work) (twice d)
+    (now (s .args .tree)) (s .args .at) (s .args .at + k) (s .args .at + k + k) (s .pre .1 .1 .0 .0 1 two .0) (s .pre .1 .1 .0 .1) (omega arith) (omega arith) in
+    rw (c .before .before .before .if3 .taken) at h
+
+join-sub-combine-by-windows : (t : ℕ) → join-lts.Need-sub-combine-by-windows (claims t) (join-at t) join.Post
+join-sub-combine-by-windows t c = omega arith
+
+join-part-combine-by-windows-start : (t : ℕ) → join-lts.Need-part-combine-by-windows-start (claims t) (join-at t) join.Post
+join-part-combine-by-windows-start t c = omega arith
+
+join-part-combine-by-windows-end : (t : ℕ) → join-lts.Need-part-combine-by-windows-end (claims t) (join-at t) join.Post
+join-part-combine-by-windows-end t c =
+    let s = c .before .before .before .before .before .before in
+    let two = s .pre .1 .0 .1 in
+    let node : Node (fieldOf (s .args .q)) (now (s .args .tree)) (s .args .at) (now (s .args .columns)) = s .pre .1 .1 .0 .0 1 two .0 in
+    omega (arith, node .room)
+
+join-sub-combine-by-windows-2 : (t : ℕ) → join-lts.Need-sub-combine-by-windows-2 (claims t) (join-at t) join.Post
+join-sub-combine-by-windows-2 t c = omega arith
+
+join-part-combine-by-windows-start-2 : (t : ℕ) → join-lts.Need-part-combine-by-windows-start-2 (claims t) (join-at t) join.Post
+join-part-combine-by-windows-start-2 t c = omega arith
+
+join-part-combine-by-windows-end-2 : (t : ℕ) → join-lts.Need-part-combine-by-windows-end-2 (claims t) (join-at t) join.Post
+join-part-combine-by-windows-end-2 t c =
+    let s = c .before .before .before .before .before .before .before in
+    let two = s .pre .1 .0 .1 in
+    let node : Node (fieldOf (s .args .q)) (now (s .args .tree)) (s .args .at) (now (s .args .columns)) = s .pre .1 .1 .0 .0 1 two .0 in
+    omega (arith, node .room)
+
+join-combine-by-windows-requires : (t : ℕ) → join-lts.Need-combine-by-windows-requires (claims t) (join-at t) join.Post
+join-combine-by-windows-requires t c κs =
+    let s = c .before .before .before .before .before .before .before .before .before in
+    let p = s .pre .1 .0 .0 in
+    let two = s .pre .1 .0 .1 in
+    let d = c .before .before .before .before in
+    let k : ℕ = length (now (s .args .columns)) - half (now (s .args .columns)) + 1 in
+    let h = halves _ _ _ _ p two _ (once (d .before)) (d .if2 .work) (twice d)
+    (now (s .args .tree)) (s .args .at) (s .args .at + k) (s .args .at + k + k) (s .pre .1 .1 .0 .0 1 two .0) (s .pre .1 .1 .0 .1) (omega arith) (omega arith) in
+    let short = s .pre .1 .0 .2 (c .before .before .before .if3 .left) in
+    (h, short .0, short .1, c .before .before .before .if3 .left)
 
 join-same-length : (t : ℕ) → join-lts.Need-same-length (claims t) (join-at t) join.Post
-join-same-length t c =
-    c .before .before .combine .kept .1 .1 .1 .1 .1 .1 .0 ∙ twice (c .before .before .before .before .before .before) .long
+join-same-length t c = c .before .before .combine-by-rows .kept .1 .1 .1 .1 .1 .0 ∙ twice (c .before .before .before .before .before .before .before) .long
 
 join-returns : (t : ℕ) → join-lts.Need-returns (claims t) (join-at t) join.Post
 join-returns t c =
-    let s = c .before .before .before .before .before .before .before .before .before .before .before in
+    let s = c .before .before .before .before .before .before .before .before .before .before .before .before in
     let p = s .pre .1 .0 .0 in
     let two = s .pre .1 .0 .1 in
-    let d = c .before .before .before .before .before .before in
+    let d = c .before .before .before .before .before .before .before in
+    let k : ℕ = length (now (s .args .columns)) - half (now (s .args .columns)) + 1 in
+    joined _ _ _ _ p two _ (once (d .before)) (d .if2 .work) (twice d)
+    (now (s .args .tree)) (s .args .at) (s .args .at + k) (s .args .at + k + k) (s .pre .1 .1 .0 .0 1 two .0) (s .pre .1 .1 .0 .1) (omega arith) (omega arith)
+    _ (rw (c .before .before .before .before .before .before .if3 .taken) (c .before .before .combine-by-rows .ensures))
+
+join-same-length-2 : (t : ℕ) → join-lts.Need-same-length-2 (claims t) (join-at t) join.Post
+join-same-length-2 t c = c .before .before .combine-by-windows .kept .1 .1 .1 .1 .1 .1 .0 ∙ twice (c .before .before .before .before .before .before .before) .long
+
+join-returns-2 : (t : ℕ) → join-lts.Need-returns-2 (claims t) (join-at t) join.Post
+join-returns-2 t c =
+    let s = c .before .before .before .before .before .before .before .before .before .before .before .before in
+    let p = s .pre .1 .0 .0 in
+    let two = s .pre .1 .0 .1 in
+    let d = c .before .before .before .before .before .before .before in
     joined _ _ _ _ p two _ (once (d .before)) (d .if2 .work) (twice d)
     (now (s .args .tree)) (s .args .at) _ _ (s .pre .1 .1 .0 .0 1 two .0) (s .pre .1 .1 .0 .1) (omega arith) (omega arith)
-    _ (c .before .before .combine .ensures)
+    _ (c .before .before .combine-by-windows .ensures)
 
 pub +join-spec : {M : Type 1} → statement M
 +join-spec = close μ-join λ t. join-lts.spec
@@ -278,12 +340,21 @@ pub +join-spec : {M : Type 1} → statement M
     (join-sub-end t)
     (join-add-end t)
     (join-add-end-2 t)
-    (join-sub-combine t)
-    (join-part-combine-start t)
-    (join-part-combine-end t)
-    (join-sub-combine-2 t)
-    (join-part-combine-start-2 t)
-    (join-part-combine-end-2 t)
-    (join-combine-requires t)
+    (join-sub-combine-by-rows t)
+    (join-part-combine-by-rows-start t)
+    (join-part-combine-by-rows-end t)
+    (join-sub-combine-by-rows-2 t)
+    (join-part-combine-by-rows-start-2 t)
+    (join-part-combine-by-rows-end-2 t)
+    (join-combine-by-rows-requires t)
+    (join-sub-combine-by-windows t)
+    (join-part-combine-by-windows-start t)
+    (join-part-combine-by-windows-end t)
+    (join-sub-combine-by-windows-2 t)
+    (join-part-combine-by-windows-start-2 t)
+    (join-part-combine-by-windows-end-2 t)
+    (join-combine-by-windows-requires t)
     (join-same-length t)
     (join-returns t)
+    (join-same-length-2 t)
+    (join-returns-2 t)

@@ -22,7 +22,7 @@ plus-requires c κs = search needs
 add-scaled-requires : tie.Need-add-scaled-requires
 add-scaled-requires c κs =
     let s = c .before .before .before .before in
-    (s .pre .0, rw (c .before .before .take .ensures) (lanes-below _ (fieldOf (s .args .q) .size) (λ t k. s .pre .1 _)))
+    (s .pre .0, rw (c .before .before .take .ensures) (lanes-below _ (fieldOf (s .args .q) .size) (λ t k. s .pre .1 _)), s .pre .3)
 
 returns : tie.Need-returns
 returns c =

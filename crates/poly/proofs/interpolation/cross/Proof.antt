@@ -27,16 +27,16 @@ loop-holds c = let a = c .before .before .args in
     (omega arith, omega (arith, mul-zero (a .w)), crossed-none _ _ _ _ _ _ _)
 
 shared-slice-read-if1 : tie.Need-shared-slice-read-if1 Inv-loop μ-loop
-shared-slice-read-if1 c = omega (arith, c .before .before .before .before .before .pre .same)
+shared-slice-read-if1 c = omega (arith, c .before .before .before .before .before .pre .0 .same)
 
 shared-slice-read-add : tie.Need-shared-slice-read-add Inv-loop μ-loop
-shared-slice-read-add c = omega (arith, c .before .before .before .before .before .before .before .pre .same)
+shared-slice-read-add c = omega (arith, c .before .before .before .before .before .before .before .pre .0 .same)
 
 add-requires : tie.Need-add-requires Inv-loop μ-loop
 add-requires c κs =
     let p = c .before .before .before .before .before .before .before .before .pre in
     let l = c .before .before .before .before .before .loop in
-    (p .g-below (l .i), p .left-below, omega (arith, l .inv .1, p .high))
+    (p .0 .g-below (l .i), p .0 .left-below, omega (arith, l .inv .1, p .0 .high), p .1)
 
 shared-slice-read-if2 : tie.Need-shared-slice-read-if2 Inv-loop μ-loop
 shared-slice-read-if2 c = omega arith
@@ -48,14 +48,14 @@ add-requires-2 : tie.Need-add-requires-2 Inv-loop μ-loop
 add-requires-2 c κs =
     let p = c .before .before .before .before .before .before .before .before .before .before .pre in
     let l = c .before .before .before .before .before .before .before .loop in
-    (p .f-below (l .i), p .right-below, omega (arith, l .inv .1, p .high))
+    (p .0 .f-below (l .i), p .0 .right-below, omega (arith, l .inv .1, p .0 .high), p .1)
 
 sub-from : tie.Need-sub-from Inv-loop μ-loop
 sub-from c =
     let s = c .before .before .before .before .before .before .before .before in
     let l = c .before .before .before .before .before .loop in
     turn-place (s .args .w) (length (now (s .args .f))) (l .i) (l .from) (s .args .at)
-    (c .before .before .before .before .loop-test .taken) (l .inv .1) (s .pre .low) .0
+    (c .before .before .before .before .loop-test .taken) (l .inv .1) (s .pre .0 .low) .0
 
 add-i : tie.Need-add-i Inv-loop μ-loop
 add-i c = omega arith
@@ -79,7 +79,7 @@ loop-again c =
     (c .if2 .came) in (
       omega arith,
       turn-place (a .w) (length (now (a .f))) (l .i) (l .from) (a .at)
-          (c .before .before .before .before .loop-test .taken) (l .inv .1) (s .pre .low) .1,
+          (c .before .before .before .before .loop-test .taken) (l .inv .1) (s .pre .0 .low) .1,
       crossed-turn F (a .w) (now (a .f)) (now (a .g)) (now (a .left)) (now (a .right)) (a .at)
           (l .i) (l .from) (l .sum) s₁ (c .if2 .sum) (l .inv .1) (l .inv .2) e₁ e₂,
     )

@@ -1,95 +1,105 @@
--- `interpolation::divide` meets its contract. The loop's invariant: the rows of the first t columns are divided. Assumes nothing.
-use mathlib.Core.Path.{_≡_, refl, sym, ap, _∙_}
-use Prim.Native.Nat.{ℕ, _+_, _*_, _-_, _≤_}
+-- `poly::interpolation::divide` meets its contract. The invariant of its loop: the rows of the first columns, up to number from, are divided.
+-- Assumes nothing.
+use mathlib.Core.Path.{_≡_, refl}
+use mathlib.Core.Logic.{⊎-elim}
+use Prim.Native.Nat.{_+_, _*_, _-_, _≤_, _<_}
 use native.Mathlib.Omega.{arith}
-use borrow.Author.Needs.{needs}
 use denote.Ref.{now}
-use lib.ListN.{length, getD}
+use lib.ListN.{length}
 use Rattle.field.proofs.Fields.{fieldOf}
-use Rattle.poly.specs.inner.Ranges.{part}
-use Rattle.poly.specs.inner.Rows.{scaled}
-use Rattle.poly.proofs.Parts.{length-part, below-part}
-use Rattle.poly.proofs.Products.{others-lt, others-ne-zero}
-use Rattle.poly.proofs.Divisions.{Dividing, dividing-none, dividing-all, divide-room, divide-turn}
+use Rattle.poly.specs.inner.Interpolation.{RowsDivided}
+use Rattle.poly.proofs.Parts.{below-part}
+use Rattle.poly.proofs.Divisions.{rows-none, group-room, group-long, group-turn, groups-all}
 use Rattle.poly.proofs.interpolation.divide.Statement.{statement}
 use Rattle.poly.proofs.interpolation.divide.Tie as tie
 
 abbrev Inv-loop : tie.InvT-loop
-Inv-loop q columns vanishing work₀ slopes t₀ at₀ work t at =
-    (t ≤ length columns) × (at ≡ 16 * t) × (length work ≡ length work₀) × Dividing (fieldOf q) columns work₀ work t
+Inv-loop q columns vanishing work₀ c from₀ work from =
+    (from ≤ length columns) × (length work ≡ length work₀) × RowsDivided (fieldOf q) columns 0 from work₀ work
 
 abbrev μ-loop : tie.MeasureT-loop
-μ-loop q columns vanishing work₀ slopes t₀ at₀ work t at = length columns - t
+μ-loop q columns vanishing work₀ c from₀ work from = length columns - from
 
-room : (c : tie.In-loop Inv-loop μ-loop) → c .before .loop .at + 16 ≤ length (c .before .loop .work)
-room c =
-    let s = c .before .before .before .before .before .before in
-    let l = c .before .loop in
-    divide-room (fieldOf (s .args .q)) (l .t) (l .at) (now (s .args .columns)) (now (s .args .work)) (l .work)
-    (s .pre .1 .1 .0) (c .loop-test .taken) (l .inv .1) (l .inv .2)
-
-slopes-requires : tie.Need-slopes-requires Inv-loop μ-loop
-slopes-requires c κs = search needs
+-- the group that begins at from
+chosen : (c : tie.Joined1 Inv-loop μ-loop) → let s = c .before .before .before .before .before .before in let l = c .before .before .loop in
+    (l .from < c .if1 .to) × (c .if1 .to ≤ length (now (s .args .columns))) × (c .if1 .to ≤ l .from + 16)
+chosen c =
+    ⊎-elim
+    (λ w. (omega (arith, w .1), omega (arith, w .1), omega (arith, w .0 .taken, w .1)))
+    (λ w. (omega (arith, w .1), omega (arith, w .0 .left, w .1), omega (arith, w .1)))
+    (c .if1 .came)
 
 loop-holds : tie.Need-loop-holds Inv-loop μ-loop
 loop-holds c =
-    let s = c .before .before .before .before in
-    (omega arith, refl, refl, dividing-none (fieldOf (s .args .q)) (now (s .args .columns)) (now (s .args .work)) (s .pre .1 .1 .1))
+    let s = c .before .before .before in
+    (omega arith, refl, rows-none (fieldOf (s .args .q)) (now (s .args .columns)) 0 (now (s .args .work)) (s .pre .1 .1 .1))
 
-add-end : tie.Need-add-end Inv-loop μ-loop
-add-end c = omega (arith, room c)
+sub-left : tie.Need-sub-left Inv-loop μ-loop
+sub-left c = omega arith
 
-array-read-divide-row : tie.Need-array-read-divide-row Inv-loop μ-loop
-array-read-divide-row c = omega (arith, c .before .before .before .before .before .before .pre .0 .2)
+add-to : tie.Need-add-to Inv-loop μ-loop
+add-to c = omega arith
 
-sub-divide-row : tie.Need-sub-divide-row Inv-loop μ-loop
-sub-divide-row c = omega arith
+mul-at : tie.Need-mul-at Inv-loop μ-loop
+mul-at c = omega arith
 
-part-divide-row-start : tie.Need-part-divide-row-start Inv-loop μ-loop
-part-divide-row-start c = omega arith
+mul-end : tie.Need-mul-end Inv-loop μ-loop
+mul-end c = omega (arith, chosen (c .before) .1)
 
-part-divide-row-end : tie.Need-part-divide-row-end Inv-loop μ-loop
-part-divide-row-end c = room c
+sub-divide-rows : tie.Need-sub-divide-rows Inv-loop μ-loop
+sub-divide-rows c = omega (arith, chosen (c .before) .0)
 
-divide-row-requires : tie.Need-divide-row-requires Inv-loop μ-loop
-divide-row-requires c κs =
+part-divide-rows-start : tie.Need-part-divide-rows-start Inv-loop μ-loop
+part-divide-rows-start c = omega (arith, chosen (c .before) .0)
+
+part-divide-rows-end : tie.Need-part-divide-rows-end Inv-loop μ-loop
+part-divide-rows-end c =
     let s = c .before .before .before .before .before .before .before in
-    let F = fieldOf (s .args .q) in
-    let l = c .before .before .loop in
-    let v = c .before .before .before .slopes .ensures .at (l .t) (c .before .loop-test .taken) in (
-      rw v (others-lt F (now (s .args .columns)) (l .t) _),
-      λ e. others-ne-zero F (now (s .args .columns)) (l .t) (s .pre .0 .0) (s .pre .0 .3) (c .before .loop-test .taken) (sym v ∙ e),
-      λ i. below-part (F .size) (l .work) (l .at) (l .at + 16) (l .inv .3 .below) i,
+    let l = c .before .before .before .loop in
+    let k = chosen (c .before) in
+    group-room (fieldOf (s .args .q)) (now (s .args .columns)) (l .from) (c .before .if1 .to) (now (s .args .work)) (l .work)
+    (s .pre .1 .1 .0) (k .0) (k .1) (l .inv .1)
+
+divide-rows-requires : tie.Need-divide-rows-requires Inv-loop μ-loop
+divide-rows-requires c κs =
+    let s = c .before .before .before .before .before .before .before .before in
+    let l = c .before .before .before .before .loop in
+    let to = c .before .before .if1 .to in
+    let k = chosen (c .before .before) in (
+      (s .pre .0 .0, k .0, k .1, k .2, s .pre .0 .2),
+      (
+        s .pre .1 .0,
+        (
+          group-long (fieldOf (s .args .q)) (now (s .args .columns)) (l .from) to (now (s .args .work)) (l .work)
+              (s .pre .1 .1 .0) (k .0) (k .1) (l .inv .1),
+          λ i. below-part _ (l .work) (16 * l .from) (16 * to) (l .inv .2 .below) i,
+        ),
+      ),
     )
 
-add-t : tie.Need-add-t Inv-loop μ-loop
-add-t c = omega arith
-
 loop-less : tie.Need-loop-less Inv-loop μ-loop
-loop-less c = omega arith
+loop-less c = let k = chosen (c .before .before .before .before .before) in omega (arith, k .0, k .1)
 
 loop-again : tie.Need-loop-again Inv-loop μ-loop
 loop-again c =
-    let s = c .before .before .before .before .before .before .before .before .before .before in
-    let F = fieldOf (s .args .q) in
-    let l = c .before .before .before .before .before .loop in
-    let taken = c .before .before .before .before .loop-test .taken in
-    let v₀ = getD (c .before .before .before .before .before .before .slopes .result) (l .t) 0 in
-    let v = c .before .before .before .before .before .before .slopes .ensures .at (l .t) taken in
-    let long : length (part (l .work) (l .at) (l .at + 16)) ≡ 16
-    = length-part (l .work) (l .at) (l .at + 16) (omega arith) (room (c .before .before .before .before)) ∙ omega arith in
+    let s = c .before .before .before .before .before .before .before .before .before .before .before in
+    let l = c .before .before .before .before .before .before .before .loop in
+    let k = chosen (c .before .before .before .before .before) in
+    let d = c .before .before .divide-rows in
     let turn =
-    divide-turn F (l .t) (l .at) (now (s .args .columns)) (now (s .args .work)) (l .work)
-    (s .pre .1 .1 .0) taken (l .inv .1) (l .inv .2) (F .inverse v₀) _ (l .inv .3)
-    (ap (F .inverse) v)
-    (c .before .before .divide-row .ensures ∙ ap (λ (n : ℕ). scaled F (F .inverse v₀) n (part (l .work) (l .at) (l .at + 16))) long) in
-    (omega arith, turn .0, turn .1, turn .2)
+    group-turn (fieldOf (s .args .q)) (now (s .args .columns)) (l .from) (c .before .before .before .before .before .if1 .to) (now (s .args .work)) (l .work)
+    (s .pre .1 .1 .0) (k .0) (k .1) (l .inv .1) _ (d .kept .1 .1 .1 .1 .1 .0) (l .inv .2) (d .ensures) in
+    (k .1, turn .0, turn .1)
 
 same-length : tie.Need-same-length Inv-loop μ-loop
-same-length c = c .before .loop .inv .2
+same-length c = c .before .loop .inv .1
 
 returns : tie.Need-returns Inv-loop μ-loop
-returns c = let l = c .before .loop in dividing-all _ (l .inv .0) (c .loop-test .left) (l .inv .3)
+returns c =
+    let s = c .before .before .before .before .before in
+    let l = c .before .loop in
+    groups-all (fieldOf (s .args .q)) (now (s .args .columns)) (l .from) (now (s .args .work)) (l .work)
+    (l .inv .0) (c .loop-test .left) (l .inv .2)
 
 pub divide-spec : {M : Type 1} → statement M
 divide-spec =
@@ -97,15 +107,15 @@ divide-spec =
     (tie.spec
     Inv-loop
     μ-loop
-    slopes-requires
     loop-holds
-    add-end
-    array-read-divide-row
-    sub-divide-row
-    part-divide-row-start
-    part-divide-row-end
-    divide-row-requires
-    add-t
+    sub-left
+    add-to
+    mul-at
+    mul-end
+    sub-divide-rows
+    part-divide-rows-start
+    part-divide-rows-end
+    divide-rows-requires
     loop-less
     loop-again
     same-length

@@ -19,7 +19,7 @@ slice-aggregate-divide : tie.Need-slice-aggregate-divide
 slice-aggregate-divide c =
     let s = c .before .before .before .before in
     sym (length-take-le (length (now (s .args .columns)) + 1) (now (s .args .tree))
-    (omega (arith, s .pre .1 .root .long, length-take (length (now (s .args .columns)) + 1) (now (s .args .tree)))))
+    (omega (arith, s .pre .1 .1 .root .long, length-take (length (now (s .args .columns)) + 1) (now (s .args .tree)))))
 
 divide-requires : tie.Need-divide-requires
 divide-requires c κs = search needs
@@ -35,8 +35,9 @@ join-requires c κs =
         divided-joinable (fieldOf (s .args .q)) (s .args .w) (now (s .args .columns)) (now (s .args .work)) _
             (s .pre .0 .0) (d .kept .1 .1 .1 .0) (d .ensures),
         c .before .if1 .taken,
+        s .pre .1 .0,
       ),
-      ((s .pre .1 .halves, s .pre .1 .below), (omega (arith, s .pre .0 .0 .few), s .pre .1 .short)),
+      ((s .pre .1 .1 .halves, s .pre .1 .1 .below), (omega (arith, s .pre .0 .0 .few), s .pre .1 .1 .short)),
     )
 
 same-length : tie.Need-same-length

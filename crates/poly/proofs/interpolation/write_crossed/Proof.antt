@@ -41,16 +41,18 @@ cross-requires : tie.Need-cross-requires Inv-loop μ-loop
 cross-requires c κs =
     let p = c .before .before .before .before .before .pre .0 in
     let l = c .before .loop in
-    let e = l .inv .1 .is-at in
-    record {
-      f-below = p .0 .f-below;
-      g-below = p .0 .g-below;
-      left-below = p .0 .left-below;
-      right-below = p .0 .right-below;
-      same = p .0 .same;
-      low = omega (arith, p .0 .low);
-      high = omega (arith, p .1, c .loop-test .taken);
-    }
+    let e = l .inv .1 .is-at in (
+      record {
+        f-below = p .0 .f-below;
+        g-below = p .0 .g-below;
+        left-below = p .0 .left-below;
+        right-below = p .0 .right-below;
+        same = p .0 .same;
+        low = omega (arith, p .0 .low);
+        high = omega (arith, p .1, c .loop-test .taken);
+      },
+      p .2,
+    )
 
 add-end : tie.Need-add-end Inv-loop μ-loop
 add-end c = omega (arith, c .before .before .before .before .before .before .pre .0 .1)

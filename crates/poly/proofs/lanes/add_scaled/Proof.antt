@@ -27,17 +27,17 @@ loop-holds c = (omega arith, refl, refl)
 element-copy-out-r : tie.Need-element-copy-out-r Inv-loop μ-loop
 element-copy-out-r c = omega arith
 
-element-copy-out-times : tie.Need-element-copy-out-times Inv-loop μ-loop
-element-copy-out-times c = omega arith
+element-copy-out-times-short : tie.Need-element-copy-out-times-short Inv-loop μ-loop
+element-copy-out-times-short c = omega arith
 
-array-read-times : tie.Need-array-read-times Inv-loop μ-loop
-array-read-times c = omega arith
+array-read-times-short : tie.Need-array-read-times-short Inv-loop μ-loop
+array-read-times-short c = omega arith
 
-times-requires : tie.Need-times-requires Inv-loop μ-loop
-times-requires c κs =
+times-short-requires : tie.Need-times-short-requires Inv-loop μ-loop
+times-short-requires c κs =
     let t = c .before .before .before .loop .t in
     let h = c .before .before .before .before .pre in
-    (h .1 t, rw (getD-replicate 16 t (c .before .before .before .before .args .c) 0 (omega arith)) (h .0))
+    (h .2, h .1 t, rw (getD-replicate 16 t (c .before .before .before .before .args .c) 0 (omega arith)) (h .0))
 
 array-write-r : tie.Need-array-write-r Inv-loop μ-loop
 array-write-r c = omega arith
@@ -53,7 +53,7 @@ unfolding plus
 loop-again c =
     let l = c .before .before .before .before .loop in
     let same = getD-replicate 16 (l .t) (c .before .before .before .before .before .args .c) 0 (c .before .before .before .loop-test .taken) in
-    (omega arith, simp length-set (l .inv .1), writes-turn _ _ (l .r) (l .t) _ (l .inv .2) (cc (same, c .times .ensures)))
+    (omega arith, simp length-set (l .inv .1), writes-turn _ _ (l .r) (l .t) _ (l .inv .2) (cc (same, c .times-short .ensures)))
 
 returns : tie.Need-returns Inv-loop μ-loop
 returns c = let l = c .before .loop in lanes-end _ (l .r) (l .t) (l .inv .2) (l .inv .0) (c .loop-test .left)
@@ -66,9 +66,9 @@ add-scaled-spec =
     μ-loop
     loop-holds
     element-copy-out-r
-    element-copy-out-times
-    array-read-times
-    times-requires
+    element-copy-out-times-short
+    array-read-times-short
+    times-short-requires
     array-write-r
     add-t
     loop-less

@@ -1,69 +1,21 @@
--- `poly::lanes::multiply` meets its contract. The invariant of its loop: the first t are written.
+-- `poly::lanes::multiply` meets its contract: of either kind of block.
 -- Assumes nothing.
-use mathlib.Core.Path.{_≡_, refl}
-use Prim.Native.Nat.{_-_, _≤_}
-use native.Mathlib.Omega.{arith}
-use lib.ListN.{length, replicate, length-set}
-use Rattle.field.proofs.Fields.{fieldOf}
-use Rattle.poly.specs.inner.Ranges.{writes}
-use Rattle.poly.specs.inner.Linear.{entry}
-use Rattle.poly.proofs.Writes.{writes-turn}
-use Rattle.poly.proofs.LaneLaws.{lanes-end}
+use borrow.Author.Needs.{needs}
 use Rattle.poly.proofs.lanes.multiply.Statement.{statement}
 use Rattle.poly.proofs.lanes.multiply.Tie as tie
 
-abbrev Inv-loop : tie.InvT-loop
-Inv-loop q a b r₀ t₀ r t =
-    (t ≤ 16) × (length r ≡ 16) × (r ≡ writes (replicate 16 0) t (λ i. fieldOf q .times (entry a i) (entry b i)))
+multiply-long-requires : tie.Need-multiply-long-requires
+multiply-long-requires c κs = rw (c .if1 .taken) at (c .before .pre)
 
-abbrev μ-loop : tie.MeasureT-loop
-μ-loop q a b r₀ t₀ r t = 16 - t
+returns : tie.Need-returns
+returns c = rw (c .before .if1 .taken) (c .multiply-long .ensures)
 
-loop-holds : tie.Need-loop-holds Inv-loop μ-loop
-unfolding writes
-loop-holds c = (omega arith, refl, refl)
+multiply-short-requires : tie.Need-multiply-short-requires
+multiply-short-requires c κs = search needs
 
-element-copy-out-times : tie.Need-element-copy-out-times Inv-loop μ-loop
-element-copy-out-times c = omega arith
-
-element-copy-out-times-2 : tie.Need-element-copy-out-times-2 Inv-loop μ-loop
-element-copy-out-times-2 c = omega arith
-
-times-requires : tie.Need-times-requires Inv-loop μ-loop
-times-requires c κs =
-    let t = c .before .before .before .loop .t in
-    let h = c .before .before .before .before .pre in
-    (h .0 t, h .1 t)
-
-array-write-r : tie.Need-array-write-r Inv-loop μ-loop
-array-write-r c = omega arith
-
-add-t : tie.Need-add-t Inv-loop μ-loop
-add-t c = omega arith
-
-loop-less : tie.Need-loop-less Inv-loop μ-loop
-loop-less c = omega arith
-
-loop-again : tie.Need-loop-again Inv-loop μ-loop
-loop-again c =
-    let l = c .before .before .before .before .loop in
-    (omega arith, simp length-set (l .inv .1), writes-turn _ _ (l .r) (l .t) _ (l .inv .2) (c .times .ensures))
-
-returns : tie.Need-returns Inv-loop μ-loop
-returns c = let l = c .before .loop in lanes-end _ (l .r) (l .t) (l .inv .2) (l .inv .0) (c .loop-test .left)
+returns-2 : tie.Need-returns-2
+returns-2 c = search needs
 
 pub multiply-spec : {M : Type 1} → statement M
 multiply-spec =
-    tie.close
-    (tie.spec
-    Inv-loop
-    μ-loop
-    loop-holds
-    element-copy-out-times
-    element-copy-out-times-2
-    times-requires
-    array-write-r
-    add-t
-    loop-less
-    loop-again
-    returns)
+    tie.close (tie.spec multiply-long-requires returns multiply-short-requires returns-2)

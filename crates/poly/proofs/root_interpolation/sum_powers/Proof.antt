@@ -5,7 +5,7 @@ use native.Mathlib.Omega.{arith}
 use denote.Ref.{now}
 use lib.ListN.{length-set}
 use Rattle.field.proofs.Fields.{fieldOf}
-use Rattle.poly.proofs.RootInterpolation.{Summing, two-values, raised-below, summing-first, summing-room, summing-turn, summing-all}
+use Rattle.poly.proofs.RootInterpolation.{Summing, few, two-values, raised-below, summing-first, summing-room, summing-turn, summing-all}
 use borrow.Author.Needs.{needs}
 use Rattle.poly.proofs.root_interpolation.sum_powers.Statement.{statement}
 use Rattle.poly.proofs.root_interpolation.sum_powers.Tie as tie
@@ -17,7 +17,7 @@ abbrev μ-loop : tie.MeasureT-loop
 μ-loop q places values row₀ v₀ i₀ row v i = i
 
 load-requires : tie.Need-load-requires Inv-loop μ-loop
-load-requires c κs = c .before .before .pre .even
+load-requires c κs = few _ _ _ _ (c .before .before .pre)
 
 sub-i : tie.Need-sub-i Inv-loop μ-loop
 sub-i c = omega (arith, two-values _ _ _ _ (c .before .before .before .pre))

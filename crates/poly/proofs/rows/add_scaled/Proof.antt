@@ -72,6 +72,7 @@ add-scaled-requires c κs =
       rw (c .before .before .take2 .ensures)
           (lanes-below _ (fieldOf (s .args .q) .size)
           (λ t k. s .pre .1 .1 (l .at + t) (omega (arith, fits (c .before .before .before .before .before) .2)))),
+      s .pre .1 .2,
     )
 
 slice-aggregate-copy : tie.Need-slice-aggregate-copy Inv-loop μ-loop

@@ -22,14 +22,14 @@ loop-holds : tie.Need-loop-holds Inv-loop μ-loop
 unfolding writes
 loop-holds c = (omega arith, refl, refl)
 
-slice-read-times : tie.Need-slice-read-times Inv-loop μ-loop
-slice-read-times c = omega arith
+slice-read-times-short : tie.Need-slice-read-times-short Inv-loop μ-loop
+slice-read-times-short c = omega arith
 
-times-requires : tie.Need-times-requires Inv-loop μ-loop
-times-requires c κs =
+times-short-requires : tie.Need-times-short-requires Inv-loop μ-loop
+times-short-requires c κs =
     let l = c .before .before .loop in
     let s = c .before .before .before .before in
-    (s .pre .1 .0, rw (writes-kept _ _ (l .row) (l .j) (l .inv .2)) (s .pre .1 .1 (l .j) (omega arith)))
+    (s .pre .1 .2, s .pre .1 .0, rw (writes-kept _ _ (l .row) (l .j) (l .inv .2)) (s .pre .1 .1 (l .j) (omega arith)))
 
 slice-write-row : tie.Need-slice-write-row Inv-loop μ-loop
 slice-write-row c = omega arith
@@ -47,7 +47,7 @@ loop-again c =
     let kept = writes-kept _ _ (l .row) (l .j) (l .inv .2) in (
       omega arith,
       simp length-set (l .inv .1),
-      writes-turn _ _ (l .row) (l .j) _ (l .inv .2) (c .times .ensures ∙ ap (fieldOf (s .args .q) .times (s .args .c)) kept),
+      writes-turn _ _ (l .row) (l .j) _ (l .inv .2) (c .times-short .ensures ∙ ap (fieldOf (s .args .q) .times (s .args .c)) kept),
     )
 
 same-length : tie.Need-same-length Inv-loop μ-loop
@@ -64,8 +64,8 @@ scale-spec =
     Inv-loop
     μ-loop
     loop-holds
-    slice-read-times
-    times-requires
+    slice-read-times-short
+    times-short-requires
     slice-write-row
     add-j
     loop-less

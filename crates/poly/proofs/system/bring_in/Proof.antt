@@ -52,7 +52,7 @@ place-requires c κs =
     let R = r .ensures in
     let pos : 0 < r .result = omega (arith, c .before .before .if1 .left) in
     let w = s .args .work .now in (
-      (s .pre .0 .0, reduced-equation _ (s .args .stride) (s .args .k) w (s .args .row .now) _ _ R pos (s .pre .0 .0) (s .pre .0 .1)),
+      (s .pre .0 .0, reduced-equation _ (s .args .stride) (s .args .k) w (s .args .row .now) _ _ R pos (s .pre .0 .0) (s .pre .0 .1), s .pre .0 .2),
       (pivot-within _ (s .args .stride) (s .args .k) w (s .args .row .now) _ _ R pos (s .pre .0 .0) (s .pre .0 .1), R .pivot pos .0),
     )
 

@@ -22,17 +22,18 @@ abbrev μ-loop : tie.MeasureT-loop
 loop-holds : tie.Need-loop-holds Inv-loop μ-loop
 loop-holds c = (omega arith, rw dot-none (sym (plus-zero _)))
 
-shared-slice-read-times : tie.Need-shared-slice-read-times Inv-loop μ-loop
-shared-slice-read-times c = omega arith
+shared-slice-read-times-short : tie.Need-shared-slice-read-times-short Inv-loop μ-loop
+shared-slice-read-times-short c = omega arith
 
-shared-slice-read-times-2 : tie.Need-shared-slice-read-times-2 Inv-loop μ-loop
-shared-slice-read-times-2 c = omega arith
+shared-slice-read-times-short-2 : tie.Need-shared-slice-read-times-short-2 Inv-loop μ-loop
+shared-slice-read-times-short-2 c = omega arith
 
-times-requires : tie.Need-times-requires Inv-loop μ-loop
-times-requires c κs =
+times-short-requires : tie.Need-times-short-requires Inv-loop μ-loop
+times-short-requires c κs =
     let j = c .before .before .before .loop .j in
     let p = c .before .before .before .before .before .before .pre in
-    p .1 j (omega arith)
+    let h = p .1 .0 j (omega arith) in
+    (p .1 .1, h .0, h .1)
 
 add-j : tie.Need-add-j Inv-loop μ-loop
 add-j c = omega arith
@@ -43,7 +44,7 @@ loop-less c = omega arith
 loop-again : tie.Need-loop-again Inv-loop μ-loop
 loop-again c =
     let l = c .before .before .before .before .loop in
-    (omega arith, is-plus (l .r) (c .times .result) ∙ rw (add-one, dot-suc, l .inv .1, c .times .ensures, plus-assoc))
+    (omega arith, is-plus (l .r) (c .times-short .result) ∙ rw (add-one, dot-suc, l .inv .1, c .times-short .ensures, plus-assoc))
 
 returns : tie.Need-returns Inv-loop μ-loop
 returns c =
@@ -57,9 +58,9 @@ dot-spec =
     Inv-loop
     μ-loop
     loop-holds
-    shared-slice-read-times
-    shared-slice-read-times-2
-    times-requires
+    shared-slice-read-times-short
+    shared-slice-read-times-short-2
+    times-short-requires
     add-j
     loop-less
     loop-again

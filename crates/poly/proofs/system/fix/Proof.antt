@@ -19,7 +19,7 @@ bring-in-requires : tie.Need-bring-in-requires
 bring-in-requires c κs =
     let s = c .before .before .before in
     let n = unit-length 64 (s .args .k) (s .args .p) (s .pre .0 .1) (omega arith) in (
-      (s .pre .0 .0, unit-list-equation 64 (s .args .k) (s .args .p) (s .pre .0 .1) (omega arith) _),
+      (s .pre .0 .0, unit-list-equation 64 (s .args .k) (s .args .p) (s .pre .0 .1) (omega arith) _, s .pre .0 .3),
       (s .pre .1 .0, s .pre .1 .1, rw n (s .pre .1 .2)),
     )
 

@@ -32,7 +32,7 @@ add-n c = search needs
 scale-requires : tie.Need-scale-requires
 scale-requires c κs =
     let s = c .before .before .before .before .before in
-    (omega (arith, s .pre .0 .1 .long), (rw (c .before .inverse .ensures) (inverse-lt _ _), λ j h. s .pre .0 .1 .symbols j (omega arith)))
+    (omega (arith, s .pre .0 .1 .long), (rw (c .before .inverse .ensures) (inverse-lt _ _), λ j h. s .pre .0 .1 .symbols j (omega arith), s .pre .0 .2))
 
 mul-base : tie.Need-mul-base
 mul-base c = omega (arith, fits (c .before .before .before .before .before .before .before .before))

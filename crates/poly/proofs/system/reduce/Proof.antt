@@ -85,6 +85,7 @@ add-scaled-requires c κs =
       (
         l .inv .symbols (l .p - 1) (omega (arith, l .inv .within)),
         λ j h. below-part _ (s .args .work .now) base (base + s .args .stride) (s .pre .0 .0 .symbols) j,
+        s .pre .0 .2,
       ),
     )
 

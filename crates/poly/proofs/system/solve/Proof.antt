@@ -58,7 +58,7 @@ dot-requires c κs =
     let base : ℕ = l .p * s .args .stride in
     let n = length-part (s .args .work .now) base (base + s .args .stride) (omega arith) (fits (c .before .before .before)) in (
       (omega (arith, n, s .pre .0 .room), omega (arith, l .inv .long)),
-      λ j h. (below-part _ (s .args .work .now) base (base + s .args .stride) (s .pre .0 .symbols) j, l .inv .symbols j h),
+      (λ j h. (below-part _ (s .args .work .now) base (base + s .args .stride) (s .pre .0 .symbols) j, l .inv .symbols j h), s .pre .2),
     )
 
 slice-write-message : tie.Need-slice-write-message Inv-loop μ-loop

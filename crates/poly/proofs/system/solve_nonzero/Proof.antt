@@ -25,7 +25,7 @@ fix-requires c κs =
     let s = c .before .before .before .before .before .before in
     let f = c .before .before .free-unknown in
     let l : f .result < s .args .k = omega (arith, f .ensures .within, c .before .if1 .left) in
-    ((s .pre .0 .0, l, f .ensures .free l), s .pre .1)
+    ((s .pre .0 .0, l, f .ensures .free l, s .pre .0 .2), s .pre .1)
 
 solve-requires : tie.Need-solve-requires
 solve-requires c κs = search needs

@@ -1,80 +1,34 @@
--- `poly::vectors::write_factors` meets its contract. The invariant of its loop: the first s are written.
+-- `poly::vectors::write_factors` meets its contract: of either kind of block.
 -- Assumes nothing.
-use mathlib.Core.Path.{_≡_, refl}
-use Prim.Native.Nat.{_≤_, _-_}
-use native.Mathlib.Omega.{arith}
-use lib.ListN.{length, length-set, getD-replicate}
-use Rattle.field.proofs.Fields.{fieldOf}
-use Rattle.field.proofs.Curves.{size-le}
-use Rattle.poly.specs.inner.Ranges.{writes}
-use Rattle.poly.proofs.Writes.{writes-turn, writes-end}
+use borrow.Author.Needs.{needs}
 use Rattle.poly.proofs.vectors.write_factors.Statement.{statement}
 use Rattle.poly.proofs.vectors.write_factors.Tie as tie
 
-abbrev Inv-loop : tie.InvT-loop
-Inv-loop q c factors₀ factor s₀ factors s =
-    (s ≤ length factors₀) × (length factors ≡ length factors₀)
-    × (factors ≡ writes factors₀ s (λ i. fieldOf q .times i c))
+write-factors-long-requires : tie.Need-write-factors-long-requires
+write-factors-long-requires c κs = rw (c .before .if1 .taken) at (c .before .before .before .pre)
 
-abbrev μ-loop : tie.MeasureT-loop
-μ-loop q c factors₀ factor s₀ factors s = length factors₀ - s
+write-factors-short-requires : tie.Need-write-factors-short-requires
+write-factors-short-requires c κs = search needs
 
-loop-holds : tie.Need-loop-holds Inv-loop μ-loop
-unfolding writes
-loop-holds c = (omega arith, refl, refl)
+same-length : tie.Need-same-length
+same-length c = search needs
 
-cast-times : tie.Need-cast-times Inv-loop μ-loop
-cast-times c = omega (arith, size-le (c .before .before .before .args .q), c .before .before .before .pre .1)
+returns : tie.Need-returns
+returns c = rw (c .before .before .before .before .if1 .taken) (c .before .before .write-factors-long .ensures)
 
-array-read-times : tie.Need-array-read-times Inv-loop μ-loop
-array-read-times c = omega (arith, size-le (c .before .before .before .args .q), c .before .before .before .pre .1)
+same-length-2 : tie.Need-same-length-2
+same-length-2 c = search needs
 
-times-requires : tie.Need-times-requires Inv-loop μ-loop
-times-requires c κs =
-    let s = c .before .before .before in
-    let l = c .before .loop in
-    let small = size-le (s .args .q) in
-    (omega (arith, s .pre .1), rw (getD-replicate 64 (l .s) (s .args .c) 0 (omega (arith, small, s .pre .1))) (s .pre .0))
-
-slice-write-factors : tie.Need-slice-write-factors Inv-loop μ-loop
-slice-write-factors c = omega arith
-
-add-s : tie.Need-add-s Inv-loop μ-loop
-add-s c = omega arith
-
-loop-less : tie.Need-loop-less Inv-loop μ-loop
-loop-less c = omega arith
-
-loop-again : tie.Need-loop-again Inv-loop μ-loop
-loop-again c =
-    let s = c .before .before .before .before in
-    let l = c .before .before .loop in
-    let small = size-le (s .args .q) in
-    let same = getD-replicate 64 (l .s) (s .args .c) 0 (omega (arith, small, s .pre .1)) in
-    (omega arith, simp length-set (l .inv .1), writes-turn _ _ (l .factors) (l .s) _ (l .inv .2) (cc (same, c .times .ensures)))
-
-same-length : tie.Need-same-length Inv-loop μ-loop
-same-length c = c .before .loop .inv .1
-
-returns : tie.Need-returns Inv-loop μ-loop
-returns c =
-    let s = c .before .before .before in
-    let l = c .before .loop in
-    writes-end _ _ (l .factors) (l .s) _ (l .inv .2) (omega (arith, s .pre .1)) (omega (arith, s .pre .1))
+returns-2 : tie.Need-returns-2
+returns-2 c = search needs
 
 pub write-factors-spec : {M : Type 1} → statement M
 write-factors-spec =
     tie.close
     (tie.spec
-    Inv-loop
-    μ-loop
-    loop-holds
-    cast-times
-    array-read-times
-    times-requires
-    slice-write-factors
-    add-s
-    loop-less
-    loop-again
+    write-factors-long-requires
+    write-factors-short-requires
     same-length
-    returns)
+    returns
+    same-length-2
+    returns-2)

@@ -4,7 +4,7 @@ use mathlib.Core.Path.{sym, _∙_}
 use Prim.Native.Nat.{_<_}
 use native.Mathlib.Omega.{arith}
 use borrow.Author.Needs.{needs}
-use Rattle.field.proofs.Curves.{sizes}
+use Rattle.field.proofs.Curves.{short-sizes}
 use Rattle.field.proofs.Outcomes.{not-done}
 use Rattle.session.proofs.Arrivals.{checked-place, arrived-refused, arrived-merged}
 use Rattle.session.proofs.Session.arrive.Statement.{statement}
@@ -15,7 +15,7 @@ inside : (c : tie.After-enum-told) → c .before .before .before .args .place < 
 inside c =
     let x = c .before .before .before .args in
     let h = checked-place (x .t1) (x .place) (x .symbol) (sym (c .before .before .check .ensures) ∙ c .enum-told .given .1) in
-    omega (arith, h .1, sizes (x .t1 .q) (h .0) .points)
+    omega (arith, h .1, short-sizes (x .t1 .q) (h .0) .points)
 
 check-requires : tie.Need-check-requires
 check-requires c κs = search needs

@@ -1,17 +1,17 @@
 -- `session::Session::check` meets its contract: each way out has the tests that led there.
 -- Assumes nothing.
-use mathlib.Core.Bool.{true}
+use mathlib.Core.Bool.{Bool, true}
 use mathlib.Core.List.{List}
-use mathlib.Core.Path.{_≡_, sym, ap₂, _∙_}
+use mathlib.Core.Path.{_≡_, sym, ap, ap₂, _∙_}
 use Prim.Native.Nat.{ℕ, _*_, _≤_, _<_}
 use native.Mathlib.Omega.{arith}
 use borrow.Author.Needs.{needs}
 use lib.ListN.{length, length-map}
 use lib.Seq.{length-take-le}
-use Rattle.field.specs.Curve.{IsCurve}
-use Rattle.field.proofs.Curves.{sizes}
+use Rattle.field.specs.Curve.{isShort, IsShort}
+use Rattle.field.proofs.Curves.{short-curve, short-sizes, short-of-true}
 use Rattle.field.specs.declared.outcome.Outcome.the-variants.{Done}
-use Rattle.code.specs.Checks.{valueCheck}
+use Rattle.code.specs.Checks.{orderChecks, valueCheck}
 use Rattle.code.proofs.Checks.{order-done}
 use Rattle.session.proofs.Arrivals.{reads, read-room, ValuesChecked}
 use Rattle.session.proofs.Arrivals.{checks-order, checks-value, checks-place, checks-symbol, checks-done}
@@ -19,13 +19,21 @@ use Rattle.session.proofs.Session.check.Statement.{statement}
 use Rattle.session.proofs.Session.check.Tie as tie
 
 abbrev start : (c : tie.After-received-word) → tie.Start
-start c = c .before .before .before .before .before
+start c = c .before .before .before .before .before .before
+
+-- what the checks 1 and 2 say
+said : (c : tie.After-order) → let s = c .before .before .before .args .self in
+    c .order .result ≡ orderChecks (isShort (s .q)) (s .q) (s .m) Done
+said c =
+    let s = c .before .before .before .args .self in
+    c .order .ensures ∙ ap (λ (t : Bool). orderChecks t (s .q) (s .m) Done) (c .before .before .is-short .ensures)
 
 -- past the checks 1 and 2
-ordered : (c : tie.After-received-word) → let s = start c .args .self in IsCurve (s .q) × (s .m < s .q * s .q * s .q)
+ordered : (c : tie.After-received-word) → let s = start c .args .self in IsShort (s .q) × (s .m < s .q * s .q * s .q)
 ordered c =
     let s = start c .args .self in
-    order-done (s .q) (s .m) (sym (c .before .before .before .order .ensures) ∙ c .before .enum-told .given .1)
+    let w = order-done (isShort (s .q)) (s .q) (s .m) (sym (said (c .before .before .before)) ∙ c .before .enum-told .given .1) in
+    (short-of-true (s .q) (w .0), w .1)
 
 long : (c : tie.After-received-word) → length (start c .args .self .places) ≡ 64
 long c = sym (length-map (start c .args .self .places) _) ∙ start c .good .0 .1 .1 .1 .1 .0 .1 .0 .1
@@ -44,26 +52,29 @@ checked c =
     let o = ordered (word c) in
     let read = reads s (long (word c)) _ (word c .received-word .ensures) (o .0) in
     record {
-      is-curve = o .0;
+      is-block = o .0;
       is-n = read .is-n;
       is-Q = read .is-Q;
       order = omega (arith, read .is-n, o .1);
       is-o = c .values .ensures ∙ ap₂ (λ (Q : ℕ) (v : List ℕ). valueCheck true Q v Done) (read .is-Q) (read .word);
     }
 
+is-short-requires : tie.Need-is-short-requires
+is-short-requires c κs = search needs
+
 cast-order : tie.Need-cast-order
 cast-order c = search needs
 
 order-requires : tie.Need-order-requires
-order-requires c κs = search needs
+order-requires c κs = λ t. short-curve _ (short-of-true _ (sym (c .before .is-short .ensures) ∙ t))
 
 enum-told : tie.Need-enum-told
 enum-told c = search needs
 
 returns : tie.Need-returns
 returns c =
-    let x = c .before .before .before .args in
-    checks-order (x .self) (x .place) (x .symbol) _ (c .before .order .ensures) (c .match .keys2)
+    let x = c .before .before .before .before .args in
+    checks-order (x .self) (x .place) (x .symbol) _ (said (c .before)) (c .match .keys2)
 
 received-word-requires : tie.Need-received-word-requires
 received-word-requires c κs = search needs
@@ -78,12 +89,12 @@ values-requires : tie.Need-values-requires
 values-requires c κs =
     let r = c .before .before in
     let w = r .received-word .result in
-    let curve = ordered r .0 in
+    let block = ordered r .0 in
     omega (
       arith,
       length-take-le (w .points) (w .places) (room r),
-      reads (start r .args .self) (long r) w (r .received-word .ensures) curve .is-n,
-      sizes _ curve .points,
+      reads (start r .args .self) (long r) w (r .received-word .ensures) block .is-n,
+      short-sizes _ block .points,
     )
 
 enum-told-2 : tie.Need-enum-told-2
@@ -119,6 +130,7 @@ pub check-spec : {M : Type 1} → statement M
 check-spec =
     tie.close
     (tie.spec
+    is-short-requires
     cast-order
     order-requires
     enum-told

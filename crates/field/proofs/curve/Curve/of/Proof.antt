@@ -15,7 +15,7 @@ returns : tie.Need-returns
 returns c = rw (curve-true _ (c .before .match .keys1)) (ap Is (c .at .ensures))
 
 returns-2 : tie.Need-returns-2
-returns-2 c = simp (ne-eqb _ _ (λ e. c .match .rest .1 (inl e)), ne-eqb _ _ (λ e. c .match .rest .1 (inr e)))
+returns-2 c = simp (ne-eqb _ _ (λ e. c .match .rest .1 (inl e)), ne-eqb _ _ (λ e. c .match .rest .1 (inr (inl e))), ne-eqb _ _ (λ e. c .match .rest .1 (inr (inr e))))
 
 pub of-spec : {M : Type 1} → statement M
 of-spec = tie.close (tie.spec at-requires returns returns-2)

@@ -5,23 +5,19 @@ use mathlib.Core.Path.{_≡_, sym, ap, _∙_}
 use Prim.Native.Nat.{ℕ, _*_, _≤_}
 use native.Mathlib.Omega.{arith}
 use lib.ListN.{length, take}
-use Rattle.field.specs.Curve.{IsShort, curveOf}
-use Rattle.field.specs.declared.curve.Curve.{Curve}
+use Rattle.field.specs.Curve.{IsShort}
 use Rattle.field.proofs.Curves.{short-sizes}
 use Rattle.code.specs.Passing.{upTo}
 use Rattle.code.specs.Points.{columnsOf}
 use Rattle.code.proofs.FullColumns.{length-upTo}
 use Rattle.code.proofs.YsTables.{columns-take}
 
-module _ (q : ℕ) (curve : IsShort q) (v : Curve) (l : List ℕ) (is-v : v ≡ curveOf q) (is-l : l ≡ upTo 16) where
-  pub symbols-are : v .symbols ≡ q * q
-  symbols-are = ap (λ (v : Curve). v .symbols) is-v
+module _ (q : ℕ) (curve : IsShort q) (n : ℕ) (l : List ℕ) (is-n : n ≡ q * q) (is-l : l ≡ upTo 16) where
+  pub columns-are : take n l ≡ columnsOf q
+  columns-are = ap (λ (n : ℕ). take n l) is-n ∙ ap (take (q * q)) is-l ∙ columns-take q curve
 
-  pub columns-are : take (v .symbols) l ≡ columnsOf q
-  columns-are = ap (λ (n : ℕ). take n l) symbols-are ∙ ap (take (q * q)) is-l ∙ columns-take q curve
+  pub columns-fit : n ≤ length l
+  columns-fit = omega (arith, is-n, short-sizes q curve .symbols, ap length is-l, length-upTo 16)
 
-  pub columns-fit : v .symbols ≤ length l
-  columns-fit = omega (arith, symbols-are, short-sizes q curve .symbols, ap length is-l, length-upTo 16)
-
-  pub columns-long : v .symbols ≡ length (take (v .symbols) l)
-  columns-long = symbols-are ∙ sym (ap length columns-are ∙ length-upTo (q * q))
+  pub columns-long : n ≡ length (take n l)
+  columns-long = is-n ∙ sym (ap length columns-are ∙ length-upTo (q * q))

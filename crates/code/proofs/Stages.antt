@@ -193,6 +193,17 @@ short-narrow q c curve few d = let z = short-sizes q (not-long-short q curve d) 
 
 -- the grid of a message, as the stages ask for it
 module _ (q : ℕ) (columns : List ℕ) (m : ℕ) (message word : List ℕ) (h : Encodable q columns m message word) where
+  pub encodable-word : Encodable q columns m message (wordOf q columns m message)
+  encodable-word =
+      record {
+        over = h .over;
+        few = h .few;
+        order = h .order;
+        long = h .long;
+        symbols = h .symbols;
+        room = word-length q m (h .over .curve) message columns (h .over .small);
+      }
+
   pub grid-below : (size : ℕ) (grid : List ℕ) → grid ≡ scatter q size m message → Below (fieldOf q .size) grid
   grid-below size grid e = rw e (symbols-scatter q size message (h .symbols) (suc m))
 

@@ -6,9 +6,10 @@ use mathlib.Core.List.{List, [], _∷_, List·Memᴰ·head as head, List·Memᴰ
 use mathlib.Core.Path.{_≡_, refl, sym, ap, _∙_}
 use Prim.Native.Nat.{ℕ, suc, _+_, _*_, _≤_, _<_}
 use native.Mathlib.Nat.{mul-le-mul-right}
+use native.Mathlib.Decide.{decLt}
 use native.Mathlib.Omega.{arith}
 use lib.ListN.{length, getD, take}
-use lib.Seq.{length-take-le}
+use lib.Seq.{length-take-le, getD-take}
 use Rattle.field.proofs.Fields.{fieldOf}
 use Rattle.field.proofs.FieldLaws.{zero-lt}
 use Rattle.field.proofs.Curves.{sizes}
@@ -17,10 +18,13 @@ use Rattle.poly.specs.Messages.{Vector}
 use Rattle.poly.specs.Sets.{ListOf}
 use Rattle.poly.specs.inner.Ranges.{Below}
 use Rattle.poly.specs.inner.Polynomials.{value}
-use Rattle.poly.specs.inner.Interpolation.{interleaved, Interpolated}
+use Rattle.poly.specs.inner.Rows.{stored}
+use Rattle.poly.specs.inner.Interpolation.{interleaved, Joinable, Interpolated}
 use Rattle.poly.proofs.Lists.{each-mem}
 use Rattle.poly.proofs.Messages.{below-vector, vector-below}
 use Rattle.poly.proofs.Values.{value-cong, value-lt}
+use Rattle.poly.proofs.Writes.{writes-out}
+use Rattle.poly.proofs.Multiples.{stored-in}
 use Rattle.poly.proofs.Roots.{value-unique}
 use Rattle.poly.proofs.Interleaving.{place-lt, interleaved-take}
 use Rattle.poly.proofs.Interpolants.{at-column, interleaved-unique}
@@ -33,7 +37,8 @@ use Rattle.code.specs.inner.Grid.{entryOf, scatter, gather, orderAtMost}
 use Rattle.code.specs.Fitting.{fitting}
 use Rattle.code.specs.Answers.{answered}
 use Rattle.code.specs.Unencoded.{theMessage}
-use Rattle.code.specs.inner.Readable.{WordOver, InterpolatedInY, gridValue, GridOf, readOver, gridAnswer}
+use Rattle.code.specs.inner.Columns.{columnY}
+use Rattle.code.specs.inner.Readable.{WordOver, InterpolatedInY, gridValue, GridOf, GridInFront, readOver, gridAnswer}
 use Rattle.code.proofs.GridEntries.{length-scatter, length-gather, gather-scatter, gather-number}
 use Rattle.code.proofs.GridLaw.{two-stages}
 use Rattle.code.proofs.Order.{within-scatter, within-message}
@@ -52,13 +57,32 @@ vector-gather q m b grid h =
     }
 
 module _ (q : ℕ) (columns word : List ℕ) (w : WordOver q columns word) where
+  -- the word is no longer than the rows of its columns
+  pub word-fits : length word ≤ 16 * length columns
+  word-fits =
+      let l : q * length columns ≤ 16 * length columns = mul-le-mul-right (length columns) (omega (arith, sizes q (w .over .curve) .high)) in
+      omega (arith, w .long)
+
+  -- what the first stage leaves is to be joined
+  pub joinable : (rows : List ℕ) → length rows ≡ 16 * length columns → InterpolatedInY q columns word rows → Joinable (fieldOf q) q columns rows
+  joinable rows long first =
+      let z = sizes q (w .over .curve) in
+      record {
+        columns-below = columns-below q columns (w .over);
+        work-below = first .symbols;
+        few = omega (arith, w .few, z .symbols);
+        narrow = z .high;
+        long = long;
+        zeros = first .zeros;
+      }
+
   -- interpolation in y, then in x, leaves it in the front of work
   pub grid-of : (rows work : List ℕ) → InterpolatedInY q columns word rows → length work ≡ 16 * length columns
       → Interpolated (fieldOf q) 16 q columns rows work
       → GridOf q columns word (take (length word) work)
   grid-of rows work first long second =
       record {
-        long = length-take-le (length word) work fits ∙ w .long;
+        long = length-take-le (length word) work (omega (arith, word-fits)) ∙ w .long;
         symbols = below-take (fieldOf q .size) work (length word) (second .below);
         is = λ t s a b. value-cong (fieldOf q) q (at-column (fieldOf q) q columns (take (length word) work) t) (λ j. getD rows (16 * t + j) 0)
             (getD (ysOf q (getD columns t 0)) s 0)
@@ -66,11 +90,47 @@ module _ (q : ℕ) (columns word : List ℕ) (w : WordOver q columns word) where
             (λ i l. ap (λ (n : ℕ). interleaved q (take n work) j i) (w .long) ∙ interleaved-take q work j (length columns) i k l)
             ∙ second .is j t k a) ∙ first .is t s a b;
       }
+
+  -- lists that are the same at the places of the grid
+  same-value : (a b : List ℕ) → ((i : ℕ) → i < q * length columns → getD a i 0 ≡ getD b i 0) → (t s : ℕ)
+      → gridValue q columns a t s ≡ gridValue q columns b t s
+  same-value a b same t s =
+      value-cong (fieldOf q) q (at-column (fieldOf q) q columns a t) (at-column (fieldOf q) q columns b t) (columnY q columns t s)
+      (λ j k. value-cong (fieldOf q) (length columns) (interleaved q a j) (interleaved q b j) (getD columns t 0)
+      (λ i l. same (q * i + j) (place-lt q i j (length columns) k l)))
+
+  -- it is copied into zeros
+  pub grid-copied : (work blank grid : List ℕ) → GridOf q columns word (take (length word) work) → length word ≤ length blank
+      → ((i : ℕ) → getD blank i 0 ≡ 0) → grid ≡ stored (length word) work blank → GridInFront q columns word grid
+  unfolding stored
+  grid-copied work blank grid g room zero is-grid =
+      record {
+        symbols = λ i. elim (decLt i (length word)) [
+          | yes l ↦ rw (front i l) (g .symbols i)
+          | no d ↦ rw (after i (omega arith)) (zero-lt (fieldOf q))
+        ];
+        is = λ t s a b. same-value grid (take (length word) work) (λ i l. front i (omega (arith, w .long))) t s ∙ g .is t s a b;
+        zeros = λ i l. after i (omega (arith, w .long));
+      }
     where
-      fits : length word ≤ length work
-      fits =
-          let l : q * length columns ≤ 16 * length columns = mul-le-mul-right (length columns) (omega (arith, sizes q (w .over .curve) .high)) in
-          omega (arith, w .long)
+      front : (i : ℕ) → i < length word → getD grid i 0 ≡ getD (take (length word) work) i 0
+      front i l =
+          ap (λ (x : List ℕ). getD x i 0) is-grid ∙ stored-in (length word) work blank i l room ∙ sym (getD-take (length word) work i 0 l)
+
+      after : (i : ℕ) → length word ≤ i → getD grid i 0 ≡ 0
+      after i l = ap (λ (x : List ℕ). getD x i 0) is-grid ∙ writes-out blank _ (length word) i l ∙ zero i
+
+  -- and read again, from the front or, where there is no more, as a whole
+  pub front-grid : (grid : List ℕ) → GridInFront q columns word grid → length word ≤ length grid → GridOf q columns word (take (length word) grid)
+  front-grid grid g room =
+      record {
+        long = length-take-le (length word) grid room ∙ w .long;
+        symbols = below-take (fieldOf q .size) grid (length word) (g .symbols);
+        is = λ t s a b. same-value (take (length word) grid) grid (λ i l. getD-take (length word) grid i 0 (omega (arith, w .long))) t s ∙ g .is t s a b;
+      }
+
+  pub whole-grid : (grid : List ℕ) → GridInFront q columns word grid → length grid ≡ q * length columns → GridOf q columns word grid
+  whole-grid grid g long = record { long = long; symbols = g .symbols; is = g .is }
 
   -- there is no other
   pub grid-only : (a b : List ℕ) → GridOf q columns word a → GridOf q columns word b → a ≡ b

@@ -1,6 +1,6 @@
 // Encoding: a message to the word of its values.
 ghost use mathlib.Core.Path.{_≡_};
-ghost use Prim.Native.Nat.{ℕ, _*_, _≤_, _<_};
+ghost use Prim.Native.Nat.{ℕ, _+_, _*_, _/_, _≤_, _<_};
 ghost use lib.ListN.{length};
 ghost use Rattle.field.specs.Curve.{IsCurve, IsShort};
 ghost use Rattle.field.proofs.Fields.{fieldOf};
@@ -9,6 +9,7 @@ ghost use Rattle.poly.specs.inner.Ranges.{Below, Blocks};
 ghost use Rattle.code.specs.Points.{columnsOf};
 ghost use Rattle.code.specs.Word.{wordOf};
 ghost use Rattle.code.specs.inner.Columns.{PaddedYs};
+ghost use Rattle.code.specs.inner.Grid.{scatter};
 ghost use Rattle.code.specs.inner.Encodable.{Encodable, Staged, Rowed, inY, columnValue, gridColumn};
 ghost use Rattle.code.specs.Answers.{answered};
 ghost use Rattle.code.specs.Encoded.{encoded};
@@ -82,6 +83,41 @@ fn evaluate_columns(q: u8, all: &[u8], columns: &[u8], rows: &[u8], word: &mut [
     }
 }
 
+// The first stage of a short block's message: its grid, at every column.
+fn evaluate_message(q: u8, columns: &[u8], m: usize, message: &[u8], rows: &mut [u8])
+    requires { ⌜ Encodable q (now columns) m (now message) (wordOf q (now columns) m (now message)) × IsShort q ⌝ }
+    requires { ⌜ Below (fieldOf q .size) (now rows) × (16 * q ≤ length (now rows)) ⌝ }
+    ensures { λ _. ⌜ Rowed q (now (columns .entry)) (m / q + 1) (scatter q 64 m (now (message .entry))) (now (rows .exit)) q ⌝ }
+{
+    let mut grid = [0u8; 64];
+    grid::scatter(q, m, message, &mut grid);
+    let last = term::divide(q, m);
+    let n = last.whole + 1;
+    evaluate_rows(q, columns, n, &grid, rows);
+}
+
+// The second stage of a short block.
+fn evaluate_short_columns(q: u8, columns: &[u8], rows: &[u8], word: &mut [u8])
+    requires { ⌜ Staged q (now columns) (now rows) × (16 * q ≤ length (now rows)) × (q * length (now columns) ≤ length (now word)) × IsShort q ⌝ }
+    ensures { λ _. ⌜ Blocks q (columnValue q (now (columns .entry)) (now (rows .entry))) (now (word .exit)) (length (now (columns .entry))) ⌝ }
+{
+    let all = point::padded_ys(q);
+    evaluate_columns(q, &all, columns, rows, word);
+}
+
+// The word of a short block's message. Each stage is a function with its own array, and the two arrays share their room.
+pub fn write_word(q: u8, m: usize, message: &[u8], word: &mut [u8])
+    requires { ⌜ Encodable q (columnsOf q) m (now message) (now word) × IsShort q ⌝ }
+    ensures { λ _. ⌜ now (word .exit) ≡ wordOf q (columnsOf q) m (now (message .entry)) ⌝ }
+{
+    let columns = point::columns();
+    let width = q as usize;
+    let c = width * width;
+    let mut rows = [0u8; 64];
+    evaluate_message(q, &columns[..c], m, message, &mut rows);
+    evaluate_short_columns(q, &columns[..c], &rows, word);
+}
+
 // Both stages over sixteen columns at most: n coefficients of each y^j's polynomial are in the grid.
 fn write_columns(q: u8, all: &[u8], columns: &[u8], n: usize, grid: &[u8], word: &mut [u8])
     requires { ⌜ Staged q (now columns) (now grid) × (1 ≤ n) × (q * n ≤ length (now grid)) × (length (now word) ≡ q * length (now columns)) ⌝ }
@@ -91,19 +127,6 @@ fn write_columns(q: u8, all: &[u8], columns: &[u8], n: usize, grid: &[u8], word:
     let mut rows = [0u8; 128];
     evaluate_rows(q, columns, n, grid, &mut rows);
     evaluate_columns(q, all, columns, &rows, word);
-}
-
-// The word of a message over the columns of a short block.
-pub fn write_word(q: u8, columns: &[u8], m: usize, message: &[u8], word: &mut [u8])
-    requires { ⌜ Encodable q (now columns) m (now message) (now word) × IsShort q ⌝ }
-    ensures { λ _. ⌜ now (word .exit) ≡ wordOf q (now (columns .entry)) m (now (message .entry)) ⌝ }
-{
-    let mut grid = [0u8; 64];
-    grid::scatter(q, m, message, &mut grid);
-    let last = term::divide(q, m);
-    let n = last.whole + 1;
-    let all = point::padded_ys(q);
-    write_columns(q, &all, columns, n, &grid, word);
 }
 
 // Both stages over all columns of a long block, sixteen at a time.
@@ -148,9 +171,6 @@ pub fn encode(q: u8, m: u16, message: &[u8], word: &mut [u8]) -> Outcome
     if q == 8 {
         return long_block::run(false, order, message, word);
     }
-    let columns = point::columns();
-    let width = q as usize;
-    let c = width * width;
-    write_word(q, &columns[..c], order, message, word);
+    write_word(q, order, message, word);
     Outcome::Done
 }

@@ -1,11 +1,11 @@
 // The points of the curves, column by column.
 ghost use mathlib.Core.Path.{_≡_};
+ghost use lib.ListN.{length};
 ghost use Rattle.field.specs.Curve.{IsShort};
 ghost use Rattle.field.proofs.Fields.{fieldOf};
 ghost use Rattle.poly.specs.inner.Interpolation.{VanishingTree};
 ghost use Rattle.code.specs.Passing.{upTo};
 ghost use Rattle.code.specs.PointTable.{PointTable};
-ghost use Rattle.code.specs.Points.{columnsOf};
 ghost use Rattle.code.specs.inner.Columns.{Ys, PaddedYs};
 use poly::rows;
 
@@ -206,14 +206,15 @@ pub fn long_columns() -> [u8; 64]
     LONG_COLUMNS
 }
 
-fn tree_2() -> [u8; 160]
-    ensures { λ r. ⌜ VanishingTree (fieldOf 2) (upTo 4) r ⌝ }
+// The trees of vanishing polynomials of all columns of each curve.
+pub fn tree_2() -> [u8; 160]
+    ensures { λ r. ⌜ VanishingTree (fieldOf 2) (upTo 4) r × (length r ≡ 160) ⌝ }
 {
     TREE_2
 }
 
-fn tree_4() -> [u8; 160]
-    ensures { λ r. ⌜ VanishingTree (fieldOf 4) (upTo 16) r ⌝ }
+pub fn tree_4() -> [u8; 160]
+    ensures { λ r. ⌜ VanishingTree (fieldOf 4) (upTo 16) r × (length r ≡ 160) ⌝ }
 {
     TREE_4
 }
@@ -222,12 +223,4 @@ pub fn long_tree() -> [u8; 848]
     ensures { λ r. ⌜ VanishingTree (fieldOf 8) (upTo 64) r ⌝ }
 {
     TREE_8
-}
-
-// The tree of vanishing polynomials of all columns of the curve q of short blocks.
-pub fn tree(q: u8) -> [u8; 160]
-    requires { ⌜ IsShort q ⌝ }
-    ensures { λ r. ⌜ VanishingTree (fieldOf q) (columnsOf q) r ⌝ }
-{
-    if q == 2 { tree_2() } else { tree_4() }
 }

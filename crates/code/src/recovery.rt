@@ -10,13 +10,12 @@ ghost use Rattle.field.proofs.Fields.{fieldOf};
 ghost use Rattle.poly.specs.Lists.{oneIf};
 ghost use Rattle.poly.specs.inner.Ranges.{Below, writes};
 ghost use Rattle.poly.specs.inner.Linear.{entry};
-ghost use Rattle.poly.specs.inner.Interpolation.{VanishingTree};
 ghost use Rattle.poly.specs.inner.Combinations.{rowsFrom, Eliminated};
 ghost use Rattle.poly.specs.inner.Eliminating.{Table};
 ghost use Rattle.code.specs.Terms.{size};
 ghost use Rattle.code.specs.inner.Recovering.{BrokenOver};
 ghost use Rattle.code.specs.Points.{columnsOf};
-ghost use Rattle.code.specs.inner.Columns.{Ys, PaddedYs};
+ghost use Rattle.code.specs.inner.Columns.{Ys};
 ghost use Rattle.code.specs.inner.Indicators.{blocksOf, YFactors, XPowers};
 ghost use Rattle.code.specs.inner.Gaps.{gapsOf, known, heavy, IndicatorRows, KnownGrid, restAnswer};
 ghost use Rattle.code.specs.Word.{wordOf};
@@ -29,7 +28,6 @@ use crate::indicator;
 use crate::point;
 use crate::term;
 use crate::unencoding;
-use field::Curve;
 use field::Outcome;
 use poly::rows;
 use poly::vectors;
@@ -47,61 +45,25 @@ fn fill(word: &[u8], out: &mut [u8])
     }
 }
 
-// The grid of the word with 0 at each gap, in the front of zeros. The word is filled, and interpolated in work.
-fn write_grid(
-    q: u8,
-    all: &[u8],
-    columns: &[u8],
-    tree: &[u8],
-    word: &[u8],
-    filled: &mut [u8],
-    work: &mut [u8],
-    grid: &mut [u8],
-)
-    requires { ⌜ BrokenOver q (now columns) 0 (now word) × VanishingTree (fieldOf q) (now columns) (now tree) × PaddedYs q (now all) ⌝ }
-    requires { ⌜ (length (now word) ≤ length (now grid)) × ((i : ℕ) → entry (now grid) i ≡ 0) ⌝ }
-    requires { ⌜ (length (now filled) ≡ length (now word)) × (length (now work) ≡ 16 * length (now columns)) × ((i : ℕ) → entry (now work) i ≡ 0) ⌝ }
-    ensures { λ _. ⌜ KnownGrid q (now (columns .entry)) (now (word .entry)) (now (grid .exit)) ⌝ }
-{
-    fill(word, filled);
-    unencoding::interpolate(q, all, columns, tree, filled, work);
-    rows::copy(word.len(), work, grid);
-}
-
-// The same of a short block.
-fn write_short_grid(q: u8, columns: &[u8], tree: &[u8], word: &[u8], grid: &mut [u8])
-    requires { ⌜ BrokenOver q (now columns) 0 (now word) × VanishingTree (fieldOf q) (now columns) (now tree) × IsShort q ⌝ }
-    requires { ⌜ (length (now word) ≤ length (now grid)) × ((i : ℕ) → entry (now grid) i ≡ 0) ⌝ }
-    ensures { λ _. ⌜ KnownGrid q (now (columns .entry)) (now (word .entry)) (now (grid .exit)) ⌝ }
+// The grid of a short block's word with 0 at each gap, in the front of zeros.
+pub fn known_short_grid(q: u8, word: &[u8]) -> [u8; 64]
+    requires { ⌜ BrokenOver q (columnsOf q) 0 (now word) × IsShort q ⌝ }
+    ensures { λ r. ⌜ KnownGrid q (columnsOf q) (now (word .entry)) r × (length r ≡ 64) ⌝ }
 {
     let n = word.len();
-    let end = 16 * columns.len();
-    let all = point::padded_ys(q);
     let mut filled = [0u8; 64];
-    let mut work = [0u8; 256];
-    write_grid(
-        q,
-        &all,
-        columns,
-        tree,
-        word,
-        &mut filled[..n],
-        &mut work[..end],
-        grid,
-    );
+    fill(word, &mut filled[..n]);
+    unencoding::interpolate_short(q, &filled[..n])
 }
 
 // The same of a long block.
-fn write_long_grid(columns: &[u8], word: &[u8], grid: &mut [u8])
-    requires { ⌜ BrokenOver 8 (now columns) 0 (now word) × (now columns ≡ columnsOf 8) ⌝ }
-    requires { ⌜ (length (now grid) ≡ 512) × ((i : ℕ) → entry (now grid) i ≡ 0) ⌝ }
-    ensures { λ _. ⌜ KnownGrid 8 (now (columns .entry)) (now (word .entry)) (now (grid .exit)) ⌝ }
+fn known_long_grid(word: &[u8]) -> [u8; 512]
+    requires { ⌜ BrokenOver 8 (columnsOf 8) 0 (now word) ⌝ }
+    ensures { λ r. ⌜ KnownGrid 8 (columnsOf 8) (now (word .entry)) r × (length r ≡ 512) ⌝ }
 {
-    let all = point::padded_long_ys();
-    let tree = point::long_tree();
     let mut filled = [0u8; 512];
-    let mut work = [0u8; 1024];
-    write_grid(8, &all, columns, &tree, word, &mut filled, &mut work, grid);
+    fill(word, &mut filled);
+    unencoding::interpolate_long(&filled)
 }
 
 // For each gap, by ascending place, the grid of the word that is 1 there and 0 elsewhere, each in the front of a row of zeros. Answers how
@@ -251,27 +213,27 @@ fn read_rest(q: u8, m: usize, count: usize, rank: usize, grid: &[u8], message: &
     Outcome::NoMessage
 }
 
-// What the symbols of a short block's broken word over all columns say.
+// What the symbols of a short block's broken word say. The grid is that of the word with 0 at each gap.
 pub fn recover_over(
     q: u8,
-    columns: &[u8],
-    tree: &[u8],
     m: usize,
     word: &[u8],
+    grid: &mut [u8; 64],
     message: &mut [u8],
 ) -> Outcome
-    requires { ⌜ BrokenOver q (now columns) m (now word) × (length (now columns) ≡ q * q) × (length (now message) ≡ size q m) × IsShort q ⌝ }
-    requires { ⌜ VanishingTree (fieldOf q) (now columns) (now tree) ⌝ }
-    ensures { λ r. ⌜ answerOf (reading (fieldOf q .size) (size q m) (wordOf q (now (columns .entry)) m) (now (word .entry))) (now (message .entry))
+    requires { ⌜ BrokenOver q (columnsOf q) m (now word) × (length (now message) ≡ size q m) × IsShort q ⌝ }
+    requires { ⌜ KnownGrid q (columnsOf q) (now word) (now grid) × (length (now grid) ≡ 64) ⌝ }
+    ensures { λ r. ⌜ answerOf (reading (fieldOf q .size) (size q m) (wordOf q (columnsOf q) m) (now (word .entry))) (now (message .entry))
         ≡ answered r (now (message .exit)) ⌝ }
 {
+    let columns = point::columns();
+    let width = q as usize;
+    let c = width * width;
     let mut vectors = [0u8; 4096];
-    let count = write_short_indicators(q, columns, word, &mut vectors);
-    let mut grid = [0u8; 64];
-    write_short_grid(q, columns, tree, word, &mut grid);
+    let count = write_short_indicators(q, &columns[..c], word, &mut vectors);
     let end = 64 * count;
-    let rank = eliminate_short(q, m, count, &mut vectors[..end], &mut grid);
-    read_rest(q, m, count, rank, &grid, message)
+    let rank = eliminate_short(q, m, count, &mut vectors[..end], grid);
+    read_rest(q, m, count, rank, grid, message)
 }
 
 // What the symbols of a long block's broken word say. The gaps' vectors stand in the front of work.
@@ -283,8 +245,7 @@ fn recover_long_over(m: usize, word: &[u8], message: &mut [u8], work: &mut [u8])
     let columns = point::long_columns();
     rows::clear(work);
     let count = write_long_indicators(&columns, word, work);
-    let mut grid = [0u8; 512];
-    write_long_grid(&columns, word, &mut grid);
+    let mut grid = known_long_grid(word);
     let end = 512 * count;
     let rank = eliminate_long(m, count, &mut work[..end], &mut grid);
     read_rest(8, m, count, rank, &grid, message)
@@ -300,11 +261,8 @@ pub fn recover(q: u8, m: u16, word: &[u8], message: &mut [u8]) -> Outcome
     let Outcome::Done = checked else {
         return checked;
     };
-    let tree = point::tree(q);
-    let columns = point::columns();
-    let curve = Curve::at(q);
-    let c = curve.symbols as usize;
-    recover_over(q, &columns[..c], &tree, order, word, message)
+    let mut grid = known_short_grid(q, word);
+    recover_over(q, order, word, &mut grid, message)
 }
 
 // The same of a long block. What work, 262,144 bytes, holds after a success and after refusals 9 and 10 is left open; any other refusal

@@ -171,11 +171,8 @@ fn settle(q: u8, m: usize, k: usize, work: &[u8], candidate: &mut [u8], whole: &
     ensures { λ _. ⌜ Solves (fieldOf q) (size q m) (flat 64 (size q m) (now (work .entry))) (now (candidate .exit)) ⌝ }
     ensures { λ _. ⌜ now (whole .exit) ≡ wordOf q (columnsOf q) m (now (candidate .exit)) ⌝ }
 {
-    let columns = point::columns();
-    let curve = Curve::at(q);
-    let c = curve.symbols as usize;
     system::solve(q, 64, k, work, candidate);
-    encoding::write_word(q, &columns[..c], m, candidate, whole);
+    encoding::write_word(q, m, candidate, whole);
 }
 
 // Brings symbols in: by their equations until these are complete, then by the candidate's word; after a clash they are only

@@ -1,15 +1,14 @@
 -- The grids of products: x times the polynomial of a grid, y times it, and so the products of a word with all terms.
 -- Assumes nothing.
 use mathlib.Core.Bool.{Bool, true, false, cond}
-use mathlib.Core.List.{List, _++_}
+use mathlib.Core.List.{List}
 use mathlib.Core.Path.{_≡_, refl, sym, ap, ap₂, _∙_}
 use Prim.Native.Nat.{ℕ, suc, _+_, _-_, _*_, _/_, _%_, _≤_, _<_}
 use native.Mathlib.Nat.{mul-suc, mul-zero}
 use native.Mathlib.Omega.{arith}
 use borrow.Author.Tests.{eq-eqb, ne-eqb, lt-ltb, le-ltb, eqb-true}
 use lib.Dec.{eqb, ltb}
-use lib.ListN.{length, getD, take, replicate, length-replicate, List·getD-append}
-use lib.Seq.{getD-take}
+use lib.ListN.{length, getD, replicate, length-replicate}
 use Rattle.field.specs.Curve.{IsCurve}
 use Rattle.field.specs.Field.{Field}
 use Rattle.field.specs.Plus.{plus}
@@ -21,7 +20,6 @@ use Rattle.field.proofs.FieldLaws.{zero-lt, times-left-comm}
 use Rattle.field.proofs.Powers.{power-zero, power-one, power-next}
 use Rattle.poly.specs.inner.Interpolation.{interleaved}
 use Rattle.poly.specs.inner.Ranges.{Below, writes}
-use Rattle.poly.specs.inner.Rows.{stored}
 use Rattle.poly.proofs.Entries.{below-zeros}
 use Rattle.poly.proofs.Lists.{mem-getD}
 use Rattle.poly.proofs.Interpolants.{at-column}
@@ -30,7 +28,7 @@ use Rattle.poly.proofs.Values.{value-cong, value-lt, value-plus, value-scale, v
 use Rattle.poly.proofs.Writes.{writes-in, below-writes}
 use Rattle.code.specs.Points.{ysOf, columnsOf}
 use Rattle.code.specs.inner.Columns.{Columns, columnY}
-use Rattle.code.specs.inner.Readable.{WordOver, gridValue, GridOf}
+use Rattle.code.specs.inner.Readable.{WordOver, gridValue, GridInFront}
 use Rattle.code.specs.inner.Recovering.{termAt}
 use Rattle.code.proofs.Columns.{length-ys}
 use Rattle.code.proofs.FullColumns.{length-upTo, full-columns, full-places}
@@ -228,26 +226,9 @@ module _ (q : ℕ) (columns : List ℕ) (over : Columns q columns) (all : length
   takes-cong : (f g : ℕ → ℕ) (grid : List ℕ) → ((p : ℕ) → f p ≡ g p) → Takes q columns f grid → Takes q columns g grid
   takes-cong f g grid e h = record { symbols = h .symbols; is = λ t s a b. h .is t s a b ∙ e (q * t + s) }
 
-  -- the grid of a word, in the front of a list, that was copied to 64 zeros
-  pub takes-copied : (word front rest r : List ℕ) (n : ℕ) → n ≡ q * length columns → n ≤ 64 → n ≤ length front → GridOf q columns word (take n front)
-      → r ≡ stored n (front ++ rest) (replicate 64 0) → Takes q columns (λ p. getD word p 0) r
-  unfolding stored
-  takes-copied word front rest r n is-n most fits h is =
-      record {
-        symbols = rw is (below-writes (replicate 64 0) (λ p. getD (front ++ rest) p 0) (F .size) n (omega (arith, length-replicate {A = ℕ} 64 0))
-            (below-zeros (F .size) 64 (zero-lt F)) (λ p l. rw (from-front p l) (h .symbols p)));
-        is = λ t s a b.
-            value-cong F q (at-column F q columns r t) (at-column F q columns (take n front) t) (columnY q columns t s) (λ j k.
-            value-cong F (length columns) (interleaved q r j) (interleaved q (take n front) j) (getD columns t 0) (λ i l.
-            let here : q * i + j < n = omega (arith, place-lt q i j (length columns) k l) in
-            ap (λ (x : List ℕ). getD x (q * i + j) 0) is
-            ∙ writes-in (replicate 64 0) (λ p. getD (front ++ rest) p 0) n (q * i + j) here (omega (arith, length-replicate {A = ℕ} 64 0))
-            ∙ from-front (q * i + j) here))
-            ∙ h .is t s a b;
-      }
-    where
-      from-front : (p : ℕ) → p < n → getD (front ++ rest) p 0 ≡ getD (take n front) p 0
-      from-front p l = List·getD-append front rest 0 p (omega arith) ∙ sym (getD-take n front p 0 l)
+  -- the grid of a word
+  pub takes-grid : (word grid : List ℕ) → GridInFront q columns word grid → Takes q columns (λ p. getD word p 0) grid
+  takes-grid word grid g = record { symbols = g .symbols; is = g .is }
 
   pub product-start : (word grid : List ℕ) → Below (F .size) word → Takes q columns (λ p. getD word p 0) grid
       → Takes q columns (product q columns word 0 0) grid
@@ -284,10 +265,6 @@ pub entry-lt : (q : ℕ) → IsCurve q → (i j : ℕ) → i < q * q → j < q �
 entry-lt q curve i j a b = omega (arith, place-lt q i j (q * q) b a, sizes q curve .grid)
 
 -- a grid's rows are within sixteen numbers for each column
-pub rows-long : (q : ℕ) → IsCurve q → q * q * q ≤ 16 * (q * q)
-rows-long = each-curve (λ q. q * q * q ≤ 16 * (q * q)) (omega arith) (omega arith) (omega arith)
-
--- as many symbols as the full list of columns has points
 pub full-word : (q : ℕ) → IsCurve q → (word : List ℕ) → length word ≡ q * q * q → Below (fieldOf q .size) word → WordOver q (columnsOf q) word
 full-word q curve word long symbols =
     record {

@@ -7,8 +7,10 @@ ghost use Rattle.mend.specs.Mended.{radius};
 ghost use Rattle.mend.specs.inner.Locating.{reach, erasedAt, Mendable, Locator};
 ghost use Rattle.mend.specs.inner.Candidates.{OnlyNear};
 use crate::locator;
-use crate::unchecked;
+use code::encoding;
+use code::recovery;
 use code::term;
+use code::unencoding;
 use field::Curve;
 use field::Outcome;
 
@@ -32,9 +34,10 @@ fn read_rest(q: u8, m: u16, s: u16, word: &[u8], locator: &[u8], message: &mut [
 {
     let n = word.len();
     let mut located = [0u8; 64];
-    unchecked::encode(q, s, locator, &mut located[..n]);
+    encoding::write_word(q, s as usize, locator, &mut located[..n]);
     erase(word, &mut located[..n]);
-    let r = unchecked::recover(q, m, &located[..n], message);
+    let mut grid = recovery::known_short_grid(q, &located[..n]);
+    let r = recovery::recover_over(q, m as usize, &located[..n], &mut grid, message);
     let Outcome::Done = r else {
         return false;
     };
@@ -46,7 +49,7 @@ pub fn find(q: u8, m: u16, t: usize, word: &[u8], message: &mut [u8]) -> bool
     requires { ⌜ Mendable q m (now word) × (t ≡ radius q m) × (length (now message) ≡ size q m) ⌝ }
     ensures { λ r. ⌜ OnlyNear q m (now (word .entry)) (now (message .exit)) r ⌝ }
 {
-    let r = unchecked::unencode(q, m, word, message);
+    let r = unencoding::read_word(q, m as usize, word, message);
     if let Outcome::Done = r {
         return true;
     }

@@ -8,6 +8,7 @@ ghost use Rattle.field.specs.declared.outcome.Outcome.the-variants.{Done};
 ghost use Rattle.mend.specs.Mended.{radius, answered, mendChecks, mended};
 ghost use Rattle.mend.specs.inner.Candidates.{OnlyNear};
 use code::check;
+use code::encoding;
 use code::term;
 use field::Curve;
 use field::Outcome;
@@ -17,7 +18,6 @@ pub mod candidate;
 pub mod difference;
 pub mod locator;
 pub mod product;
-pub mod unchecked;
 
 // The outcome, and how many symbols were changed.
 pub struct Reply {
@@ -85,7 +85,7 @@ fn write_near(
 {
     let n = word.len();
     let mut near = [0u8; 64];
-    unchecked::encode(q, m, candidate, &mut near[..n]);
+    encoding::write_word(q, m as usize, candidate, &mut near[..n]);
     let count = difference::count(word, &near[..n]);
     if t < count {
         return Reply {

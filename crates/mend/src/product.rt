@@ -7,11 +7,9 @@ ghost use Rattle.field.proofs.Fields.{fieldOf};
 ghost use Rattle.poly.specs.inner.Linear.{entry};
 ghost use Rattle.poly.specs.inner.Ranges.{Below, writes};
 ghost use Rattle.code.specs.Points.{columnsOf};
-ghost use Rattle.mend.specs.inner.Products.{Takes, TimesX, top, turned, timesYAt, Multiples, Products};
-use code::point;
+ghost use Rattle.mend.specs.inner.Products.{TimesX, top, turned, timesYAt, Multiples, Products};
 use code::term;
 use code::unencoding;
-use field::Curve;
 use poly::rows;
 
 // x times the polynomial of a grid of n entries.
@@ -102,24 +100,6 @@ fn write_multiples(q: u8, n: usize, count: usize, first: &[u8], out: &mut [u8])
     }
 }
 
-// The grid of a word.
-fn interpolate(q: u8, word: &[u8]) -> [u8; 64]
-    requires { ⌜ IsShort q × (length (now word) ≡ q * q * q) × Below (fieldOf q .size) (now word) ⌝ }
-    ensures { λ r. ⌜ Takes q (columnsOf q) (entry (now (word .entry))) r × (length r ≡ 64) ⌝ }
-{
-    let tree = point::tree(q);
-    let columns = point::columns();
-    let curve = Curve::at(q);
-    let c = curve.symbols as usize;
-    let end = 16 * c;
-    let mut work = [0u8; 256];
-    let all = point::padded_ys(q);
-    unencoding::interpolate(q, &all, &columns[..c], &tree, word, &mut work[..end]);
-    let mut r = [0u8; 64];
-    rows::copy(word.len(), &work, &mut r);
-    r
-}
-
 // The grids of x^i·y^j times the word, for each j below q and each i below count.
 pub fn write_products(q: u8, count: usize, word: &[u8], grids: &mut [u8])
     requires { ⌜ IsShort q × (length (now word) ≡ q * q * q) × Below (fieldOf q .size) (now word) ⌝ }
@@ -129,7 +109,7 @@ pub fn write_products(q: u8, count: usize, word: &[u8], grids: &mut [u8])
     let n = word.len();
     let width = q as usize;
     let part = 64 * count;
-    let mut grid = interpolate(q, word);
+    let mut grid = unencoding::interpolate_short(q, word);
     let mut j = 0;
     let mut at = 0;
     while j < width {

@@ -105,17 +105,17 @@ module _ (F : Field) (w : ℕ) where
           (moved-past w (w * n) src i p (omega (arith, mul-add w n i, mul-le-mul-left w l))) ∙ zero-times F (getD f i 0)
     ])
 
--- ---- products that are read from windows: lists that have 48 zeros before the elements
+-- ---- products that are read from windows: lists that have 32 zeros before the elements
 
-window : (w n : ℕ) (src out : List ℕ) → Placed n src out → (i p : ℕ) → getD out (48 + p - w * i) 0 ≡ movedOn w n src i p
+window : (w n : ℕ) (src out : List ℕ) → Placed n src out → (i p : ℕ) → getD out (32 + p - w * i) 0 ≡ movedOn w n src i p
 window w n src out q i p = elim (decLt p (w * i)) [
-  | yes l ↦ q .low (48 + p - w * i) (omega arith) ∙ sym (moved-before w n src i p l)
-  | no l ↦ let s : 48 + p - w * i ≡ 48 + (p - w * i) = omega arith in
+  | yes l ↦ q .low (32 + p - w * i) (omega arith) ∙ sym (moved-before w n src i p l)
+  | no l ↦ let s : 32 + p - w * i ≡ 32 + (p - w * i) = omega arith in
       ap (λ (k : ℕ). getD out k 0) s ∙ q .is (p - w * i) ∙ sym (moved-from w n src i p (omega arith))
 ]
 
 pub crossed-convolved : (F : Field) (w k m n : ℕ) (f g left right l r : List ℕ) → Placed m left l → Placed n right r → (p : ℕ)
-    → crossed F w k f g l r (48 + p) ≡ plus (convolved F w m g left k p) (convolved F w n f right k p)
+    → crossed F w k f g l r (32 + p) ≡ plus (convolved F w m g left k p) (convolved F w n f right k p)
 unfolding crossed convolved
 crossed-convolved F w k m n f g left right l r pl pr p =
     sum-cong k _ (λ i. plus (F .times (movedOn w m left i p) (getD g i 0)) (F .times (movedOn w n right i p) (getD f i 0)))

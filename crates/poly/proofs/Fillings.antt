@@ -77,8 +77,8 @@ module _ (o : ℕ) (f : ℕ → ℕ) (out₀ out : List ℕ) (at from : ℕ) (h 
 pub block-room : (n length at : ℕ) → ((b : ℕ) → 16 * b < n → 16 * b + 16 ≤ length) → (b : ℕ) → at ≡ 16 * b → at < n → at + 16 ≤ length
 block-room n length at h b e l = omega (arith, h b (omega arith))
 
--- a block that begins before n, no more than 64, ends within 112 numbers of which the first 48 are passed over
-pub block-end : (n at length b : ℕ) → at ≡ 16 * b → n ≤ 64 → length ≡ 112 → at < n → 48 + at + 16 ≤ length
+-- a block that begins before n, no more than 64, ends within 96 numbers of which the first 32 are passed over
+pub block-end : (n at length b : ℕ) → at ≡ 16 * b → n ≤ 64 → length ≡ 96 → at < n → 32 + at + 16 ≤ length
 block-end n at length b e small long l = omega arith
 
 -- every block that begins before n is written
@@ -109,15 +109,15 @@ filled-below n f out₀ out at h small new e =
       | no b ↦ rw (h .rest e (omega arith)) (small (0 + e))
     ])
 
--- the elements of src, after 48 zeros
-pub filled-placed : (n : ℕ) (src out : List ℕ) (at : ℕ) → Padded n src → n ≤ 64 → Filled 48 (λ e. getD src e 0) (zeros 112) out at
+-- the elements of src, after 32 zeros
+pub filled-placed : (n : ℕ) (src out : List ℕ) (at : ℕ) → Padded n src → n ≤ 64 → Filled 32 (λ e. getD src e 0) (zeros 96) out at
     → n ≤ at → at < n + 16 → Placed n src out
-filled-placed n src out at padded small h l near = record { low = λ i b. h .low i b ∙ getD-zeros 112 i; is = λ e. go e (decLt e n) (decLt e at) }
+filled-placed n src out at padded small h l near = record { low = λ i b. h .low i b ∙ getD-zeros 96 i; is = λ e. go e (decLt e n) (decLt e at) }
   where
     none : (e : ℕ) → n ≤ e → getD (take n src) e 0 ≡ 0
     none e b = List·getD-eq-default (take n src) 0 {n = e} (omega (arith, length-take n src))
 
-    go : (e : ℕ) → Dec (e < n) → Dec (e < at) → getD out (48 + e) 0 ≡ getD (take n src) e 0
+    go : (e : ℕ) → Dec (e < n) → Dec (e < at) → getD out (32 + e) 0 ≡ getD (take n src) e 0
     go e (yes b) d = h .done e (omega arith) ∙ sym (getD-take n src e 0 b)
     go e (no b) (yes d) =
         let q : ℕ = e / 16 in
@@ -131,4 +131,4 @@ filled-placed n src out at padded small h l near = record { low = λ i b. h .low
       where
         block : 16 * (e / 16) < n
         block = let m : e % 16 < 16 = mod-lt e (omega arith) in omega (arith, div-add-mod e 16, h .is-at)
-    go e (no b) (no d) = h .rest e (omega arith) ∙ getD-zeros 112 (48 + e) ∙ sym (none e (omega arith))
+    go e (no b) (no d) = h .rest e (omega arith) ∙ getD-zeros 96 (32 + e) ∙ sym (none e (omega arith))

@@ -2,7 +2,7 @@
 -- Assumes nothing.
 use mathlib.Core.List.{List, _++_}
 use mathlib.Core.Path.{_≡_, sym, ap, _∙_}
-use Prim.Native.Nat.{ℕ, _≤_, _<_}
+use Prim.Native.Nat.{ℕ, _≤_}
 use native.Mathlib.Omega.{arith}
 use lib.ListN.{length, take, drop, length-append, length-replicate}
 use lib.Seq.{length-take-le, length-front, take-at, take-append-le}
@@ -40,9 +40,3 @@ module _ (n : ℕ) (front rest : List ℕ) (long : length front ≡ n) where
 
     pub part-long : m ≡ length (take m (front ++ rest))
     part-long = sym (length-take-le m (front ++ rest) part-fits)
-
-    pub part-lt : (k : ℕ) → k < m → k < length (take m (front ++ rest))
-    part-lt k h = omega (arith, part-long)
-
-    pub part-le : (k : ℕ) → m ≤ k → length (take m (front ++ rest)) ≤ k
-    part-le k h = omega (arith, part-long)

@@ -28,10 +28,10 @@ pub block-in : (w c b : ℕ) → w ≤ 8 → 16 * b < w * c → 16 * b + 16 ≤ 
 block-in w c b narrow l = let k : w * c ≤ 8 * c = mul-le-mul-right c narrow in omega arith
 
 -- the placed elements are below what the others are
-pub placed-below : (q n : ℕ) (src out : List ℕ) → 0 < q → length out ≡ 112 → Below q src → Placed n src out → Below q out
-placed-below q n src out pos long small p i = elim (decLt i 48) [
+pub placed-below : (q n : ℕ) (src out : List ℕ) → 0 < q → length out ≡ 96 → Below q src → Placed n src out → Below q out
+placed-below q n src out pos long small p i = elim (decLt i 32) [
   | yes l ↦ rw (p .low i l) pos
-  | no l ↦ let e : i ≡ 48 + (i - 48) = omega arith in rw (ap (λ (x : ℕ). getD out x 0) e ∙ p .is (i - 48)) (below-take q src n small (i - 48))
+  | no l ↦ let e : i ≡ 32 + (i - 32) = omega arith in rw (ap (λ (x : ℕ). getD out x 0) e ∙ p .is (i - 32)) (below-take q src n small (i - 32))
 ]
 
 module _ (F : Field) (w h c : ℕ) (f g work : List ℕ) (p : Halves F w h c f g work) where
@@ -116,22 +116,22 @@ module _ (F : Field) (w h c : ℕ) (f g work : List ℕ) (p : Halves F w h c f g
     pub left-few : w * h ≤ 64
     left-few = let k : w * h ≤ 4 * h = mul-le-mul-right h narrow in omega (arith, p .more)
 
-    pub right-few : w * (c - h) ≤ 48
+    pub right-few : w * (c - h) ≤ 32
     right-few = let k : w * (c - h) ≤ 4 * (c - h) = mul-le-mul-right (c - h) narrow in omega (arith, p .even)
 
     pub all-few : w * c ≤ 64
     all-few = let k : w * c ≤ 4 * c = mul-le-mul-right c narrow in omega arith
 
-    pub coefficients-few : w * suc (c - h) ≤ 48
-    coefficients-few = let k : w * suc (c - h) ≤ 4 * suc (c - h) = mul-le-mul-right (suc (c - h)) narrow in omega (arith, p .even)
+    pub coefficients-few : w * suc (c - h) ≤ 32 + w
+    coefficients-few = omega (arith, right-few, mul-suc w (c - h))
 
   pub combined-windows : (l r out : List ℕ) → Placed (w * h) (take (16 * h) work) l → Placed (w * (c - h)) (drop (16 * h) work) r
-      → Written (w * c) (λ e. crossed F w (length f) f g l r (48 + e)) out → Below (F .size) out → Combined F w h c f g work out
+      → Written (w * c) (λ e. crossed F w (length f) f g l r (32 + e)) out → Below (F .size) out → Combined F w h c f g work out
   combined-windows l r out pl pr written below =
       combined (take (16 * h) work) (drop (16 * h) work) out
       (λ e b. let k : w * h ≤ 16 * h = mul-le-mul-right h rows-narrow in getD-take (16 * h) work e 0 (omega arith))
       (λ e b. refl)
-      (λ b t k m. written b t k m ∙ ap (λ (n : ℕ). crossed F w n f g l r (48 + (16 * b + t))) (p .f-long)
+      (λ b t k m. written b t k m ∙ ap (λ (n : ℕ). crossed F w n f g l r (32 + (16 * b + t))) (p .f-long)
       ∙ crossed-convolved F w (suc (c - h)) (w * h) (w * (c - h)) f g (take (16 * h) work) (drop (16 * h) work) l r pl pr (16 * b + t))
       below
 

@@ -17,8 +17,8 @@ use crate::polynomial;
 use crate::rows;
 
 // a + c * the sixteen elements of src from at on, of short blocks. Where c is 1, as it often is, no product is worked out.
-fn add(q: u8, c: u8, src: &[u8; 112], at: usize, a: &[u8; 16]) -> [u8; 16]
-    requires { ⌜ (c < fieldOf q .size) × Below (fieldOf q .size) (now src) × (at + 16 ≤ 112) × (q ≡ 8 → ⊥) ⌝ }
+fn add(q: u8, c: u8, src: &[u8; 96], at: usize, a: &[u8; 16]) -> [u8; 16]
+    requires { ⌜ (c < fieldOf q .size) × Below (fieldOf q .size) (now src) × (at + 16 ≤ 96) × (q ≡ 8 → ⊥) ⌝ }
     ensures { λ r. ⌜ r ≡ lanes (λ t. plus (entry (now (a .entry)) t) (fieldOf q .times (getD (now (src .entry)) (at + t) 0) c)) ⌝ }
 {
     let b = lanes::take(src, at);
@@ -35,8 +35,8 @@ fn cross(
     w: usize,
     f: &[u8],
     g: &[u8],
-    left: &[u8; 112],
-    right: &[u8; 112],
+    left: &[u8; 96],
+    right: &[u8; 96],
     at: usize,
 ) -> [u8; 16]
     requires { ⌜ Crossable (fieldOf q) w (now f) (now g) (now left) (now right) at × (q ≡ 8 → ⊥) ⌝ }
@@ -45,56 +45,56 @@ fn cross(
 {
     let mut sum = [0u8; 16];
     let mut i = 0;
-    let mut from = at;
+    let mut from = at + w;
     while i < f.len() {
+        from -= w;
         if g[i] != 0 {
             sum = add(q, g[i], left, from, &sum);
         }
         if f[i] != 0 {
             sum = add(q, f[i], right, from, &sum);
         }
-        from -= w;
         i += 1;
     }
     sum
 }
 
-// The first n elements of src, after 48 zeros.
+// The first n elements of src, after 32 zeros.
 fn place(n: usize, src: &[u8], out: &mut [u8])
     requires { ⌜ (n ≤ 64) × ((b : ℕ) → 16 * b < n → 16 * b + 16 ≤ length (now src)) × Padded n (now src) ⌝ }
-    requires { ⌜ now out ≡ replicate 112 0 ⌝ }
+    requires { ⌜ now out ≡ replicate 96 0 ⌝ }
     ensures { λ _. ⌜ Placed n (now (src .entry)) (now (out .exit)) ⌝ }
 {
     let mut at = 0;
     while at < n {
         let a = lanes::take(src, at);
-        let from = 48 + at;
+        let from = 32 + at;
         let end = from + 16;
         rows::copy(16, &a, &mut out[from..end]);
         at += 16;
     }
 }
 
-// The first n elements of work become those of left times g plus right times f; left and right begin after 48 zeros.
+// The first n elements of work become those of left times g plus right times f; left and right begin after 32 zeros.
 fn write_crossed(
     q: u8,
     w: usize,
     n: usize,
     f: &[u8],
     g: &[u8],
-    left: &[u8; 112],
-    right: &[u8; 112],
+    left: &[u8; 96],
+    right: &[u8; 96],
     work: &mut [u8],
 )
-    requires { ⌜ Crossable (fieldOf q) w (now f) (now g) (now left) (now right) 48 × (n ≤ 64) × (q ≡ 8 → ⊥) ⌝ }
+    requires { ⌜ Crossable (fieldOf q) w (now f) (now g) (now left) (now right) 32 × (n ≤ 64) × (q ≡ 8 → ⊥) ⌝ }
     requires { ⌜ ((b : ℕ) → 16 * b < n → 16 * b + 16 ≤ length (now work)) × Below (fieldOf q .size) (now work) ⌝ }
     ensures { λ _. ⌜ Written n (λ p. crossed (fieldOf q) w (length (now (f .entry))) (now (f .entry)) (now (g .entry))
-        (now (left .entry)) (now (right .entry)) (48 + p)) (now (work .exit))
+        (now (left .entry)) (now (right .entry)) (32 + p)) (now (work .exit))
         × Below (fieldOf q .size) (now (work .exit)) ⌝ }
 {
     let mut at = 0;
     while at < n {
-        let a = cross(q, w, f, g, left, right, 48 + at);
+        let a = cross(q, w, f, g, left, right, 32 + at);
         let end = at + 16;
         rows::copy(16, &a, &mut work[at..end]);
         at = end;
@@ -108,8 +108,8 @@ fn combine_by_windows(q: u8, w: usize, h: usize, c: usize, f: &[u8], g: &[u8], w
     ensures { λ _. ⌜ Combined (fieldOf q) w h c (now (f .entry)) (now (g .entry)) (now (work .entry)) (now (work .exit)) ⌝ }
 {
     let half = 16 * h;
-    let mut left = [0u8; 112];
-    let mut right = [0u8; 112];
+    let mut left = [0u8; 96];
+    let mut right = [0u8; 96];
     place(w * h, &work[..half], &mut left);
     place(w * (c - h), &work[half..], &mut right);
     write_crossed(q, w, w * c, f, g, &left, &right, work);
@@ -228,14 +228,19 @@ fn divide_rows(q: u8, columns: &[u8], from: usize, to: usize, vanishing: &[u8], 
     }
 }
 
-// Divides the row of each column by the derivative's value there.
+// Divides the row of each column by the derivative's value there. Sixteen columns or fewer are divided by a call of their own, the second
+// one, with which the compiler keeps `divide_rows` a call, and its room out of the frames under `join`.
 fn divide(q: u8, columns: &[u8], vanishing: &[u8], work: &mut [u8])
-    requires { ⌜ Below (fieldOf q .size) (now columns) × (length (now columns) ≤ 64) × Nodup (now columns) ⌝ }
+    requires { ⌜ Below (fieldOf q .size) (now columns) × (1 ≤ length (now columns)) × (length (now columns) ≤ 64) × Nodup (now columns) ⌝ }
     requires { ⌜ Vanishing (fieldOf q) (now columns) (now vanishing) ⌝ }
     requires { ⌜ (length (now work) ≡ 16 * length (now columns)) × Below (fieldOf q .size) (now work) ⌝ }
     ensures { λ _. ⌜ Divided (fieldOf q) (now (columns .entry)) (now (work .entry)) (now (work .exit)) ⌝ }
 {
     let c = columns.len();
+    if c <= 16 {
+        divide_rows(q, columns, 0, c, vanishing, work);
+        return;
+    }
     let mut from = 0;
     while from < c {
         let left = c - from;

@@ -45,6 +45,12 @@ pub record GridOf (q : ℕ) (columns word grid : List ℕ) : Type 0 where
   pub symbols : Below (fieldOf q .size) grid
   pub is : (t s : ℕ) → t < length columns → s < q → gridValue q columns grid t s ≡ getD word (q * t + s) 0
 
+-- the same in the front of zeros
+pub record GridInFront (q : ℕ) (columns word grid : List ℕ) : Type 0 where
+  pub symbols : Below (fieldOf q .size) grid
+  pub is : (t s : ℕ) → t < length columns → s < q → gridValue q columns grid t s ≡ getD word (q * t + s) 0
+  pub zeros : (i : ℕ) → q * length columns ≤ i → getD grid i 0 ≡ 0
+
 -- ---- the message
 
 -- a word over the columns, and room for its message of order m

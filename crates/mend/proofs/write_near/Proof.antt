@@ -28,11 +28,11 @@ short s = let x = s .args in word-short (x .q) (x .m) (now (x .word)) (now (x .m
 array-borrow-prefix-near : tie.Need-array-borrow-prefix-near
 array-borrow-prefix-near c = short (c .before .before .before .before .before)
 
-slice-aggregate-encode : tie.Need-slice-aggregate-encode
-slice-aggregate-encode c = sym (lent-long 64 _ (short (c .before .before .before .before .before .before)))
+slice-aggregate-write-word : tie.Need-slice-aggregate-write-word
+slice-aggregate-write-word c = sym (lent-long 64 _ (short (c .before .before .before .before .before .before)))
 
-encode-requires : tie.Need-encode-requires
-encode-requires c κs =
+write-word-requires : tie.Need-write-word-requires
+write-word-requires c κs =
     let s = c .before .before .before .before .before .before in
     let x = s .args in (
       only-encodable (x .q) (x .m) (now (x .word)) (now (x .message)) (now (x .codeword)) (now (x .marks)) (s .pre .0) (now (x .candidate))
@@ -41,37 +41,37 @@ encode-requires c κs =
     )
 
 -- the word of the candidate
-word-is : (c : tie.After-encode) → let x = c .before .before .before .before .before .before .before .args in
-    c .encode .last .1 .1 .1 .0 ≡ wordOf (x .q) (columnsOf (x .q)) (x .m) (now (x .candidate))
-word-is c = c .encode .ensures
+word-is : (c : tie.After-write-word) → let x = c .before .before .before .before .before .before .before .args in
+    c .write-word .last .1 .1 .1 .0 ≡ wordOf (x .q) (columnsOf (x .q)) (x .m) (now (x .candidate))
+word-is c = c .write-word .ensures
 
 array-share-prefix-near : tie.Need-array-share-prefix-near
 array-share-prefix-near c =
     let z = c .before in
     let s = z .before .before .before .before .before .before .before in
-    front-fits _ (z .encode .last .1 .1 .1 .0) _ (front-long 64 _ (short s) (z .encode .last .1 .1 .1 .0) (z .encode .kept .1 .1 .1 .0))
+    front-fits _ (z .write-word .last .1 .1 .1 .0) _ (front-long 64 _ (short s) (z .write-word .last .1 .1 .1 .0) (z .write-word .kept .1 .1 .1 .0))
 
 slice-aggregate-count : tie.Need-slice-aggregate-count
 slice-aggregate-count c =
     let z = c .before .before in
     let s = z .before .before .before .before .before .before .before in
-    sym (again-long _ (z .encode .last .1 .1 .1 .0) _ (front-long 64 _ (short s) (z .encode .last .1 .1 .1 .0) (z .encode .kept .1 .1 .1 .0)))
+    sym (again-long _ (z .write-word .last .1 .1 .1 .0) _ (front-long 64 _ (short s) (z .write-word .last .1 .1 .1 .0) (z .write-word .kept .1 .1 .1 .0)))
 
 count-requires : tie.Need-count-requires
 count-requires c κs =
     let z = c .before .before in
     let s = z .before .before .before .before .before .before .before in
-    again-long _ (z .encode .last .1 .1 .1 .0) _ (front-long 64 _ (short s) (z .encode .last .1 .1 .1 .0) (z .encode .kept .1 .1 .1 .0))
+    again-long _ (z .write-word .last .1 .1 .1 .0) _ (front-long 64 _ (short s) (z .write-word .last .1 .1 .1 .0) (z .write-word .kept .1 .1 .1 .0))
 
 -- the number of places where it differs from the given word
 counted : (c : tie.After-count) → let z = c .before .before .before in
-    c .count .result ≡ differing (now (z .before .before .before .before .before .before .before .args .word)) (z .encode .last .1 .1 .1 .0)
+    c .count .result ≡ differing (now (z .before .before .before .before .before .before .before .args .word)) (z .write-word .last .1 .1 .1 .0)
 counted c =
     let z = c .before .before .before in
     let s = z .before .before .before .before .before .before .before in
     c .count .ensures
-    ∙ ap (differing (now (s .args .word))) (front-again _ (z .encode .last .1 .1 .1 .0) _ (front-long 64 _ (short s)
-    (z .encode .last .1 .1 .1 .0) (z .encode .kept .1 .1 .1 .0)))
+    ∙ ap (differing (now (s .args .word))) (front-again _ (z .write-word .last .1 .1 .1 .0) _ (front-long 64 _ (short s)
+    (z .write-word .last .1 .1 .1 .0) (z .write-word .kept .1 .1 .1 .0)))
 
 returns : tie.Need-returns
 returns c =
@@ -90,13 +90,13 @@ slice-aggregate-copy : tie.Need-slice-aggregate-copy
 slice-aggregate-copy c =
     let z = c .before .before .before .before .before .before .before .before .before in
     let s = z .before .before .before .before .before .before .before in
-    array-long 64 _ (short s) (z .encode .last .1 .1 .1 .0) (z .encode .kept .1 .1 .1 .0)
+    array-long 64 _ (short s) (z .write-word .last .1 .1 .1 .0) (z .write-word .kept .1 .1 .1 .0)
 
 copy-requires-2 : tie.Need-copy-requires-2
 copy-requires-2 c κs =
     let z = c .before .before .before .before .before .before .before .before .before .before in
     let s = z .before .before .before .before .before .before .before in (
-      front-fits _ (z .encode .last .1 .1 .1 .0) _ (front-long 64 _ (short s) (z .encode .last .1 .1 .1 .0) (z .encode .kept .1 .1 .1 .0)),
+      front-fits _ (z .write-word .last .1 .1 .1 .0) _ (front-long 64 _ (short s) (z .write-word .last .1 .1 .1 .0) (z .write-word .kept .1 .1 .1 .0)),
       omega (arith, accepted s .mendable .long, accepted s .codeword-long),
     )
 
@@ -104,19 +104,19 @@ array-share-prefix-near-2 : tie.Need-array-share-prefix-near-2
 array-share-prefix-near-2 c =
     let z = c .before .before .before .before .before .before .before .before .before .before .before .before .before in
     let s = z .before .before .before .before .before .before .before in
-    front-fits _ (z .encode .last .1 .1 .1 .0) _ (front-long 64 _ (short s) (z .encode .last .1 .1 .1 .0) (z .encode .kept .1 .1 .1 .0))
+    front-fits _ (z .write-word .last .1 .1 .1 .0) _ (front-long 64 _ (short s) (z .write-word .last .1 .1 .1 .0) (z .write-word .kept .1 .1 .1 .0))
 
 slice-aggregate-mark : tie.Need-slice-aggregate-mark
 slice-aggregate-mark c =
     let z = c .before .before .before .before .before .before .before .before .before .before .before .before .before .before in
     let s = z .before .before .before .before .before .before .before in
-    sym (again-long _ (z .encode .last .1 .1 .1 .0) _ (front-long 64 _ (short s) (z .encode .last .1 .1 .1 .0) (z .encode .kept .1 .1 .1 .0)))
+    sym (again-long _ (z .write-word .last .1 .1 .1 .0) _ (front-long 64 _ (short s) (z .write-word .last .1 .1 .1 .0) (z .write-word .kept .1 .1 .1 .0)))
 
 mark-requires : tie.Need-mark-requires
 mark-requires c κs =
     let z = c .before .before .before .before .before .before .before .before .before .before .before .before .before .before .before in
     let s = z .before .before .before .before .before .before .before in (
-      again-long _ (z .encode .last .1 .1 .1 .0) _ (front-long 64 _ (short s) (z .encode .last .1 .1 .1 .0) (z .encode .kept .1 .1 .1 .0)),
+      again-long _ (z .write-word .last .1 .1 .1 .0) _ (front-long 64 _ (short s) (z .write-word .last .1 .1 .1 .0) (z .write-word .kept .1 .1 .1 .0)),
       accepted s .marks-long ∙ sym (accepted s .mendable .long),
     )
 
@@ -147,8 +147,8 @@ returns-2 c =
     let z = e .before .before .before .before in
     let s = z .before .before .before .before .before .before .before in
     let x = s .args in
-    let near = z .encode .last .1 .1 .1 .0 in
-    let kept = z .encode .kept .1 .1 .1 .0 in
+    let near = z .write-word .last .1 .1 .1 .0 in
+    let kept = z .write-word .kept .1 .1 .1 .0 in
     let a = accepted s in
     answered-near (x .q) (x .m) (now (x .word)) (now (x .message)) (now (x .codeword)) (now (x .marks)) (s .pre .0) (now (x .candidate))
     (s .pre .1 .1) (x .t) (s .pre .1 .0) _ (word-is z) _ (counted (e .before)) (e .if1 .left) _ _ _
@@ -163,8 +163,8 @@ write-near-spec =
     tie.close
     (tie.spec
     array-borrow-prefix-near
-    slice-aggregate-encode
-    encode-requires
+    slice-aggregate-write-word
+    write-word-requires
     array-share-prefix-near
     slice-aggregate-count
     count-requires

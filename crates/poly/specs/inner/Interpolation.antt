@@ -73,10 +73,10 @@ pub record VanishingTree (F : Field) (columns tree : List ℕ) : Type 0 where
 abbrev pub Padded : ℕ → List ℕ → Type 0
 Padded n s = (b t : ℕ) → 16 * b < n → t < 16 → n ≤ 16 * b + t → getD s (16 * b + t) 0 ≡ 0
 
--- 48 zeros, the first n elements of src, and zeros
+-- 32 zeros, the first n elements of src, and zeros
 pub record Placed (n : ℕ) (src out : List ℕ) : Type 0 where
-  pub low : (i : ℕ) → i < 48 → getD out i 0 ≡ 0
-  pub is : (e : ℕ) → getD out (48 + e) 0 ≡ getD (take n src) e 0
+  pub low : (i : ℕ) → i < 32 → getD out i 0 ≡ 0
+  pub is : (e : ℕ) → getD out (32 + e) 0 ≡ getD (take n src) e 0
 
 -- the blocks of 16 that begin before n hold f
 abbrev pub Written : ℕ → (ℕ → ℕ) → List ℕ → Type 0
@@ -94,8 +94,9 @@ pub record Crossable (F : Field) (w : ℕ) (f g left right : List ℕ) (at : ℕ
   pub left-below : Below (F .size) left
   pub right-below : Below (F .size) right
   pub same : length g ≡ length f
-  pub low : w * length f ≤ at
-  pub high : at + 16 ≤ 112
+  pub narrow : w ≤ 4
+  pub low : w * length f ≤ at + w
+  pub high : at + 16 ≤ 96
 
 -- what is to be joined: a row of 16 for each column
 pub record Joinable (F : Field) (w : ℕ) (columns work : List ℕ) : Type 0 where

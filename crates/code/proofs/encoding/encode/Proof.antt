@@ -1,17 +1,14 @@
--- `code::encoding::encode` meets its contract: a refusal by the checks is the call's; past them the word is written over the full list of
--- columns, that of a long block sixteen columns at a time.
+-- `code::encoding::encode` meets its contract: a refusal by the checks is the call's; past them the word is written.
 -- Assumes nothing.
 use mathlib.Core.Bool.{Bool, false, false≢true}
-use mathlib.Core.List.{List}
 use mathlib.Core.Path.{_≡_, sym, ap, _∙_, subst}
 use Prim.Native.Nat.{ℕ, _*_, _<_}
-use native.Mathlib.Omega.{arith}
 use borrow.Author.Needs.{needs}
 use denote.Ref.{now}
-use lib.ListN.{length, take}
+use lib.ListN.{length}
 use Rattle.field.specs.Curve.{IsCurve, IsShort}
 use Rattle.field.specs.declared.outcome.Outcome.the-variants.{Done}
-use Rattle.field.proofs.Curves.{curve-of-true, short-sizes}
+use Rattle.field.proofs.Curves.{curve-of-true}
 use Rattle.code.specs.Points.{columnsOf}
 use Rattle.code.specs.Terms.{size}
 use Rattle.code.specs.Word.{wordOf}
@@ -21,8 +18,7 @@ use Rattle.code.specs.inner.Encodable.{Encodable}
 use Rattle.code.specs.Encoded.{encodeChecks, encoded}
 use Rattle.code.proofs.Checks.{Accepted, call-done}
 use Rattle.code.proofs.Answers.{not-refused, entry-refused}
-use Rattle.code.proofs.YsTables.{columns-take}
-use Rattle.code.proofs.FullColumns.{length-upTo, encodable}
+use Rattle.code.proofs.FullColumns.{encodable}
 use Rattle.code.proofs.Stages.{not-long-short}
 use Rattle.code.proofs.encoding.encode.Statement.{statement}
 use Rattle.code.proofs.encoding.encode.Tie as tie
@@ -57,10 +53,6 @@ ready c =
 short : (c : tie.Else1) → IsShort (c .before .before .before .before .before .before .before .args .q)
 short c = not-long-short (c .before .before .before .before .before .before .before .args .q) (passed (c .before) .0) (c .if1 .left)
 
--- the columns that are lent
-lent : (c : tie.After-columns) → let q = c .before .before .before .before .before .before .before .before .args .q in take (q * q) (c .columns .result) ≡ columnsOf q
-lent c = let q = c .before .before .before .before .before .before .before .before .args .q in ap (take (q * q)) (c .columns .ensures) ∙ columns-take q (short (c .before))
-
 is-curve-requires : tie.Need-is-curve-requires
 is-curve-requires c κs = search needs
 
@@ -91,27 +83,8 @@ returns-2 c =
     let e = ap (λ (q : ℕ). wordOf q (columnsOf q) (x .m) (now (x .message))) (c .before .before .before .before .if1 .taken) in
     not-refused _ (now (x .word)) _ (done (c .before .before .before .before .before)) ∙ ap (answered Done) e ∙ c .before .before .run .ensures
 
-columns-requires : tie.Need-columns-requires
-columns-requires c κs = search needs
-
-mul-c : tie.Need-mul-c
-mul-c c = let q = c .before .before .before .before .before .before .before .before .args .q in omega (arith, short-sizes q (short (c .before)) .symbols)
-
-array-share-prefix-columns : tie.Need-array-share-prefix-columns
-array-share-prefix-columns c =
-    let q = c .before .before .before .before .before .before .before .before .args .q in
-    omega (arith, ap length (c .columns .ensures), length-upTo 16, short-sizes q (short (c .before)) .symbols)
-
-slice-aggregate-write-word : tie.Need-slice-aggregate-write-word
-slice-aggregate-write-word c = sym (ap length (lent (c .before)) ∙ length-upTo _)
-
 write-word-requires : tie.Need-write-word-requires
-write-word-requires c κs =
-    let d = c .before .before .before in
-    let x = d .before .before .before .before .before .before .before .args in (
-      subst (λ (l : List ℕ). Encodable (x .q) l (x .m) (now (x .message)) (now (x .word))) (sym (lent (c .before .before))) (ready (d .before)),
-      short d,
-    )
+write-word-requires c κs = (ready (c .before .before), short (c .before))
 
 same-length-2 : tie.Need-same-length-2
 same-length-2 c = search needs
@@ -119,10 +92,9 @@ same-length-2 c = search needs
 returns-3 : tie.Need-returns-3
 unfolding encoded
 returns-3 c =
-    let d = c .before .before .before .before .before .before .before in
+    let d = c .before .before .before .before .before in
     let x = d .before .before .before .before .before .before .args in
-    let e = ap (λ (l : List ℕ). wordOf (x .q) l (x .m) (now (x .message))) (lent (c .before .before .before .before .before)) in
-    not-refused _ (now (x .word)) _ (done d) ∙ ap (answered Done) (sym (c .before .before .write-word .ensures ∙ e))
+    not-refused _ (now (x .word)) _ (done d) ∙ ap (answered Done) (sym (c .before .before .write-word .ensures))
 
 pub encode-spec : {M : Type 1} → statement M
 encode-spec =
@@ -135,10 +107,6 @@ encode-spec =
     run-requires
     same-length
     returns-2
-    columns-requires
-    mul-c
-    array-share-prefix-columns
-    slice-aggregate-write-word
     write-word-requires
     same-length-2
     returns-3)

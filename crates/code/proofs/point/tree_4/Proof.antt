@@ -1,6 +1,6 @@
 -- `code::point::tree_4` meets its contract: the rule of the table, by computed tests.
 -- Assumes nothing.
-use Prim.Native.Nat.{_≤_}
+use mathlib.Core.Path.{refl}
 use native.Mathlib.Omega.{arith}
 use Rattle.field.specs.Plus.{plus}
 use Rattle.field.specs.Product.{times}
@@ -13,7 +13,7 @@ use Rattle.code.proofs.point.tree_4.Tie as tie
 
 returns : tie.Need-returns
 unfolding times plus passing every timesLinear coefficients holds isNode isTree
-returns c = vanishing-tree (fieldOf 4) 4 (upTo 16) _ (omega arith) (omega arith) tt tt tt
+returns c = (vanishing-tree (fieldOf 4) 4 (upTo 16) _ (omega arith) (omega arith) tt tt tt, refl)
 
 pub tree-4-spec : {M : Type 1} → statement M
 tree-4-spec = tie.close (tie.spec returns)

@@ -1,7 +1,7 @@
 -- `code::recovery::recover_long_over` meets its contract: the gaps' grids, in the lent slice, are taken out of the word's, and what is left says it.
 -- Assumes nothing.
 use mathlib.Core.List.{List}
-use mathlib.Core.Path.{_≡_, refl, sym, ap, _∙_, subst}
+use mathlib.Core.Path.{_≡_, sym, ap, _∙_, subst}
 use Prim.Native.Nat.{ℕ, _*_, _≤_}
 use native.Mathlib.Omega.{arith}
 use denote.Ref.{now}
@@ -13,6 +13,7 @@ use Rattle.poly.proofs.Entries.{getD-zeros}
 use Rattle.code.specs.Recovered.{reading, answerOf}
 use Rattle.code.specs.Terms.{size}
 use Rattle.code.specs.Word.{wordOf}
+use Rattle.code.specs.inner.Gaps.{KnownGrid}
 use Rattle.code.specs.inner.Recovering.{BrokenOver}
 use Rattle.code.proofs.FullColumns.{length-upTo}
 use Rattle.code.proofs.GapAnswers.{broken-0, count-le, count-fits, lent-long, lent-symbols, rest-answer}
@@ -72,49 +73,39 @@ write-long-indicators-requires c κs =
       ),
     )
 
-slice-aggregate-write-long-grid : tie.Need-slice-aggregate-write-long-grid
-slice-aggregate-write-long-grid c = search needs
-
-slice-aggregate-write-long-grid-2 : tie.Need-slice-aggregate-write-long-grid-2
-slice-aggregate-write-long-grid-2 c = search needs
-
-write-long-grid-requires : tie.Need-write-long-grid-requires
-write-long-grid-requires c κs =
-    let s = c .before .before .before .before .before .before .before .before .before .before .before .before .before .before .before in
-    let l = c .before .before .before .before .before .before .before .before .before .before .before .long-columns .ensures in (
-      (subst (λ (l : List ℕ). BrokenOver 8 l 0 (now (s .args .word))) (sym l) (broken-0 _ _ _ _ (s .pre .0)), l),
-      (refl, getD-zeros 512),
-    )
+known-long-grid-requires : tie.Need-known-long-grid-requires
+known-long-grid-requires c κs = broken-0 _ _ _ _ (c .before .before .before .before .before .before .before .before .before .before .before .before .before .pre .0)
 
 mul-end : tie.Need-mul-end
-mul-end c = omega (arith, lent (c .before .before .before .before .before .before) .0)
+mul-end c = omega (arith, lent (c .before .before .before) .0)
 
 slice-relend-prefix-eliminate-long : tie.Need-slice-relend-prefix-eliminate-long
-slice-relend-prefix-eliminate-long c = lent (c .before .before .before .before .before .before) .1
+slice-relend-prefix-eliminate-long c = lent (c .before .before .before) .1
 
 slice-aggregate-eliminate-long : tie.Need-slice-aggregate-eliminate-long
-slice-aggregate-eliminate-long c = sym (lent (c .before .before .before .before .before .before .before) .2)
+slice-aggregate-eliminate-long c = sym (lent (c .before .before .before .before) .2)
 
 slice-aggregate-eliminate-long-2 : tie.Need-slice-aggregate-eliminate-long-2
 slice-aggregate-eliminate-long-2 c = search needs
 
 eliminate-long-requires : tie.Need-eliminate-long-requires
 eliminate-long-requires c κs =
-    let s = c .before .before .before .before .before .before .before .before .before .before .before .before .before .before .before .before .before .before .before in
-    let b = s .pre .0 in
-    let w = lent (c .before .before .before .before .before .before .before .before) in
-    let g = c .before .before .before .write-long-grid in
-    ((omega (arith, b .order, length-upTo 64), w .2, w .3), (g .kept .1 .1 .0, g .ensures .symbols))
+    let i = c .before .before .before .before .before in
+    let b = i .before .before .before .before .before .before .before .before .before .before .before .pre .0 in
+    let w = lent i in
+    let g = c .before .before .known-long-grid in
+    ((omega (arith, b .order, length-upTo 64), w .2, w .3), (g .ensures .1, g .ensures .0 .symbols))
 
 slice-aggregate-read-rest : tie.Need-slice-aggregate-read-rest
 slice-aggregate-read-rest c = search needs
 
 read-rest-requires : tie.Need-read-rest-requires
 read-rest-requires c κs =
-    let s = c .before .before .before .before .before .before .before .before .before .before .before .before .before .before .before .before .before .before .before .before .before .before .before .before .before in
+    let i = c .before .before .before .before .before .before .before .before .before .before .before in
+    let s = i .before .before .before .before .before .before .before .before .before .before .before in
     let b = s .pre .0 in
-    let long = c .before .before .before .before .before .eliminate-long .kept .1 .1 .1 .0 ∙ c .before .before .before .before .before .before .before .before .before .write-long-grid .kept .1 .1 .0 in
-    (long-curve, omega (arith, b .order, length-upTo 64, long), omega (arith, long), omega (arith, lent (c .before .before .before .before .before .before .before .before .before .before .before .before .before .before) .0), s .pre .1)
+    let long = c .before .before .before .before .before .eliminate-long .kept .1 .1 .1 .0 ∙ c .before .before .before .before .before .before .before .before .known-long-grid .ensures .1 in
+    (long-curve, omega (arith, b .order, length-upTo 64, long), omega (arith, long), omega (arith, lent i .0), s .pre .1)
 
 same-length : tie.Need-same-length
 same-length c = search needs
@@ -124,16 +115,17 @@ same-length-2 c = search needs
 
 returns : tie.Need-returns
 returns c =
-    let s = c .before .before .before .before .before .before .before .before .before .before .before .before .before .before .before .before .before .before .before .before .before .before .before .before .before .before .before .before in
+    let i = c .before .before .before .before .before .before .before .before .before .before .before .before .before .before in
+    let s = i .before .before .before .before .before .before .before .before .before .before .before in
     let x = s .args in
-    let i = c .before .before .before .before .before .before .before .before .before .before .before .before .before .before .before .before .before in
     let w = i .write-long-indicators in
-    let g = c .before .before .before .before .before .before .before .before .before .before .before .before .write-long-grid in
+    let g = c .before .before .before .before .before .before .before .before .before .before .before .known-long-grid in
     let e = c .before .before .before .before .before .before .before .before .eliminate-long in
     let v = w .last .1 .1 .0 in
     let l = i .before .before .before .before .before .before .before .long-columns .ensures in
-    sym (rest-answer 8 _ _ _ (over i) (full i) 512 (points i) _ (w .ensures .0) v (room i) (w .ensures .1) _ (g .ensures) _ (e .last .1 .1 .0) (e .last .1 .1 .1 .0)
-    (e .kept .1 .1 .1 .0 ∙ g .kept .1 .1 .0) (e .ensures .1) (now (x .message))
+    let known = subst (λ (l : List ℕ). KnownGrid 8 l (now (x .word)) (g .result)) (sym l) (g .ensures .0) in
+    sym (rest-answer 8 _ _ _ (over i) (full i) 512 (points i) _ (w .ensures .0) v (room i) (w .ensures .1) _ known _ (e .last .1 .1 .0) (e .last .1 .1 .1 .0)
+    (e .kept .1 .1 .1 .0 ∙ g .ensures .1) (e .ensures .1) (now (x .message))
     ∙ ap (λ (l : List ℕ). answerOf (reading (fieldOf 8 .size) (size 8 (x .m)) (wordOf 8 l (x .m)) (now (x .word))) (now (x .message))) l)
     ∙ c .before .before .read-rest .ensures
 
@@ -145,9 +137,7 @@ recover-long-over-spec =
     clear-requires
     slice-aggregate-write-long-indicators
     write-long-indicators-requires
-    slice-aggregate-write-long-grid
-    slice-aggregate-write-long-grid-2
-    write-long-grid-requires
+    known-long-grid-requires
     mul-end
     slice-relend-prefix-eliminate-long
     slice-aggregate-eliminate-long

@@ -1,17 +1,39 @@
 -- `code::recovery::recover_over` meets its contract: the gaps' grids are taken out of the word's, and what is left says it.
 -- Assumes nothing.
-use mathlib.Core.Path.{_≡_, sym, _∙_}
-use Prim.Native.Nat.{_*_, _≤_}
+use mathlib.Core.List.{List}
+use mathlib.Core.Path.{_≡_, refl, sym, ap, _∙_, subst}
+use Prim.Native.Nat.{ℕ, _*_, _≤_}
 use native.Mathlib.Omega.{arith}
 use denote.Ref.{now}
 use lib.ListN.{length, take}
 use Rattle.field.proofs.Fields.{fieldOf}
+use Rattle.field.proofs.Curves.{short-sizes}
 use Rattle.poly.specs.inner.Ranges.{Below}
 use Rattle.poly.proofs.Entries.{getD-zeros}
+use Rattle.code.specs.Points.{columnsOf}
+use Rattle.code.specs.Recovered.{reading, answerOf}
+use Rattle.code.specs.Terms.{size}
+use Rattle.code.specs.Word.{wordOf}
+use Rattle.code.specs.inner.Gaps.{KnownGrid}
+use Rattle.code.specs.inner.Recovering.{BrokenOver}
+use Rattle.code.proofs.AllColumns.{columns-are, columns-fit}
+use Rattle.code.proofs.FullColumns.{length-upTo}
 use Rattle.code.proofs.GapAnswers.{broken-0, short-places, count-le, count-fits, lent-long, lent-symbols, rest-answer}
 use borrow.Author.Needs.{needs}
 use Rattle.code.proofs.recovery.recover_over.Statement.{statement}
 use Rattle.code.proofs.recovery.recover_over.Tie as tie
+
+-- the columns that are lent are all
+all : (c : tie.After-columns) → let q = c .before .before .before .args .q in take (q * q) (c .columns .result) ≡ columnsOf q
+all c = let s = c .before .before .before in columns-are (s .args .q) (s .pre .0 .2) (s .args .q * s .args .q) _ refl (c .columns .ensures)
+
+over : (c : tie.After-columns) → let x = c .before .before .before .args in BrokenOver (x .q) (take (x .q * x .q) (c .columns .result)) (x .m) (now (x .word))
+over c =
+    let s = c .before .before .before in
+    subst (λ (l : List ℕ). BrokenOver (s .args .q) l (s .args .m) (now (s .args .word))) (sym (all c)) (s .pre .0 .0)
+
+full : (c : tie.After-columns) → let q = c .before .before .before .args .q in length (take (q * q) (c .columns .result)) ≡ q * q
+full c = let q = c .before .before .before .args .q in ap length (all c) ∙ length-upTo (q * q)
 
 -- the gaps' vectors, and the part of them that is lent
 lent : (c : tie.After-write-short-indicators) → let w = c .write-short-indicators in
@@ -19,98 +41,100 @@ lent : (c : tie.After-write-short-indicators) → let w = c .write-short-indicat
     × (length (take (64 * w .result) (w .last .1 .1 .1 .0)) ≡ 64 * w .result)
     × Below (fieldOf (c .before .before .before .before .before .before .args .q) .size) (take (64 * w .result) (w .last .1 .1 .1 .0))
 lent c =
-    let s = c .before .before .before .before .before .before in
+    let d = c .before .before .before in
     let w = c .write-short-indicators in
     let v = w .last .1 .1 .1 .0 in
     let room : 64 * 64 ≤ length v = omega (arith, w .kept .1 .1 .1 .0) in
-    let h = s .pre .0 .0 in
-    let few = short-places _ _ _ _ h (s .pre .0 .3) .0 in (
-      count-le _ _ _ _ h (s .pre .0 .1) 64 few (w .result) (w .ensures .0) v room (w .ensures .1),
-      count-fits _ _ _ _ h (s .pre .0 .1) 64 few (w .result) (w .ensures .0) v room (w .ensures .1),
-      lent-long _ _ _ _ h (s .pre .0 .1) 64 few (w .result) (w .ensures .0) v room (w .ensures .1),
-      lent-symbols _ _ _ _ h (s .pre .0 .1) 64 few (w .result) (w .ensures .0) v room (w .ensures .1),
+    let h = over d in
+    let few = short-places _ _ _ _ h (d .before .before .before .pre .0 .2) .0 in (
+      count-le _ _ _ _ h (full d) 64 few (w .result) (w .ensures .0) v room (w .ensures .1),
+      count-fits _ _ _ _ h (full d) 64 few (w .result) (w .ensures .0) v room (w .ensures .1),
+      lent-long _ _ _ _ h (full d) 64 few (w .result) (w .ensures .0) v room (w .ensures .1),
+      lent-symbols _ _ _ _ h (full d) 64 few (w .result) (w .ensures .0) v room (w .ensures .1),
     )
 
+columns-requires : tie.Need-columns-requires
+columns-requires c κs = search needs
+
+mul-c : tie.Need-mul-c
+mul-c c = let s = c .before .before .before in omega (arith, short-sizes (s .args .q) (s .pre .0 .2) .symbols)
+
+array-share-prefix-columns : tie.Need-array-share-prefix-columns
+array-share-prefix-columns c = let s = c .before .before .before in columns-fit (s .args .q) (s .pre .0 .2) _ _ refl (c .columns .ensures)
+
 slice-aggregate-write-short-indicators : tie.Need-slice-aggregate-write-short-indicators
-slice-aggregate-write-short-indicators c = search needs
+slice-aggregate-write-short-indicators c = sym (full (c .before))
+
+slice-aggregate-write-short-indicators-2 : tie.Need-slice-aggregate-write-short-indicators-2
+slice-aggregate-write-short-indicators-2 c = search needs
 
 write-short-indicators-requires : tie.Need-write-short-indicators-requires
 write-short-indicators-requires c κs =
-    let s = c .before .before .before .before .before in
-    let b = s .pre .0 .0 in
-    ((broken-0 _ _ _ _ b, s .pre .0 .1, s .pre .0 .3), (omega (arith, short-places _ _ _ _ b (s .pre .0 .3) .1), getD-zeros 4096))
-
-slice-aggregate-write-short-grid : tie.Need-slice-aggregate-write-short-grid
-slice-aggregate-write-short-grid c = search needs
-
-write-short-grid-requires : tie.Need-write-short-grid-requires
-write-short-grid-requires c κs =
-    let s = c .before .before .before .before .before .before .before .before in
-    let b = s .pre .0 .0 in
-    ((broken-0 _ _ _ _ b, s .pre .1, s .pre .0 .3), (short-places _ _ _ _ b (s .pre .0 .3) .1, getD-zeros 64))
+    let d = c .before .before in
+    let short = d .before .before .before .pre .0 .2 in
+    let b = over d in
+    ((broken-0 _ _ _ _ b, full d, short), (omega (arith, short-places _ _ _ _ b short .1), getD-zeros 4096))
 
 mul-end : tie.Need-mul-end
-mul-end c = omega (arith, lent (c .before .before .before .before) .0)
+mul-end c = omega (arith, lent (c .before) .0)
 
 array-borrow-prefix-vectors : tie.Need-array-borrow-prefix-vectors
-array-borrow-prefix-vectors c = lent (c .before .before .before .before) .1
+array-borrow-prefix-vectors c = lent (c .before) .1
 
 slice-aggregate-eliminate-short : tie.Need-slice-aggregate-eliminate-short
-slice-aggregate-eliminate-short c = sym (lent (c .before .before .before .before .before) .2)
-
-slice-aggregate-eliminate-short-2 : tie.Need-slice-aggregate-eliminate-short-2
-slice-aggregate-eliminate-short-2 c = search needs
+slice-aggregate-eliminate-short c = sym (lent (c .before .before) .2)
 
 eliminate-short-requires : tie.Need-eliminate-short-requires
 eliminate-short-requires c κs =
-    let s = c .before .before .before .before .before .before .before .before .before .before .before .before in
-    let b = s .pre .0 .0 in
-    let w = lent (c .before .before .before .before .before .before) in
-    let g = c .before .before .before .write-short-grid in
-    ((s .pre .0 .3, omega (arith, b .order, b .long, short-places _ _ _ _ b (s .pre .0 .3) .1), w .2, w .3), (g .kept .1 .1 .1 .1 .0, g .ensures .symbols))
-
-slice-aggregate-read-rest : tie.Need-slice-aggregate-read-rest
-slice-aggregate-read-rest c = search needs
+    let i = c .before .before .before in
+    let d = i .before .before .before in
+    let s = d .before .before .before in
+    let b = over d in
+    let w = lent i in
+    ((s .pre .0 .2, omega (arith, b .order, b .long, short-places _ _ _ _ b (s .pre .0 .2) .1), w .2, w .3), (s .pre .1 .1, s .pre .1 .0 .symbols))
 
 read-rest-requires : tie.Need-read-rest-requires
 read-rest-requires c κs =
-    let s = c .before .before .before .before .before .before .before .before .before .before .before .before .before .before .before .before .before in
-    let b = s .pre .0 .0 in
-    let few = short-places _ _ _ _ b (s .pre .0 .3) in
-    let long = c .before .before .before .before .eliminate-short .kept .1 .1 .1 .1 .0 ∙ c .before .before .before .before .before .before .before .before .write-short-grid .kept .1 .1 .1 .1 .0 in
-    (b .over .curve, omega (arith, b .order, b .long, few .1, long), omega (arith, long), omega (arith, lent (c .before .before .before .before .before .before .before .before .before .before .before) .0), s .pre .0 .2)
+    let i = c .before .before .before .before .before .before .before .before in
+    let d = i .before .before .before in
+    let s = d .before .before .before in
+    let b = over d in
+    let long = c .before .before .before .before .eliminate-short .kept .1 .1 .1 .1 .0 ∙ s .pre .1 .1 in
+    (b .over .curve, omega (arith, b .order, b .long, short-places _ _ _ _ b (s .pre .0 .2) .1, long), omega (arith, long), omega (arith, lent i .0), s .pre .0 .1)
 
 same-length : tie.Need-same-length
 same-length c = search needs
 
 returns : tie.Need-returns
 returns c =
-    let s = c .before .before .before .before .before .before .before .before .before .before .before .before .before .before .before .before .before .before .before .before in
+    let i = c .before .before .before .before .before .before .before .before .before .before .before in
+    let d = i .before .before .before in
+    let s = d .before .before .before in
     let x = s .args in
-    let w = c .before .before .before .before .before .before .before .before .before .before .before .before .before .before .write-short-indicators in
-    let g = c .before .before .before .before .before .before .before .before .before .before .before .write-short-grid in
+    let w = i .write-short-indicators in
     let e = c .before .before .before .before .before .before .before .eliminate-short in
-    let few = short-places _ _ _ _ (s .pre .0 .0) (s .pre .0 .3) in
     let v = w .last .1 .1 .1 .0 in
     let room : 64 * 64 ≤ length v = omega (arith, w .kept .1 .1 .1 .0) in
-    sym (rest-answer _ _ _ _ (s .pre .0 .0) (s .pre .0 .1) 64 (few .0) _ (w .ensures .0) v room (w .ensures .1) _ (g .ensures) _ (e .last .1 .1 .1 .0) (e .last .1 .1 .1 .1 .0)
-    (e .kept .1 .1 .1 .1 .0 ∙ g .kept .1 .1 .1 .1 .0) (e .ensures .1) (now (x .message)))
+    let known = subst (λ (l : List ℕ). KnownGrid (x .q) l (now (x .word)) (now (x .grid))) (sym (all d)) (s .pre .1 .0) in
+    sym (rest-answer _ _ _ _ (over d) (full d) 64 (short-places _ _ _ _ (over d) (s .pre .0 .2) .0) _ (w .ensures .0) v room (w .ensures .1) _ known _
+    (e .last .1 .1 .1 .0) (e .last .1 .1 .1 .1 .0) (e .kept .1 .1 .1 .1 .0 ∙ s .pre .1 .1) (e .ensures .1) (now (x .message))
+    ∙ ap (λ (l : List ℕ). answerOf (reading (fieldOf (x .q) .size) (size (x .q) (x .m)) (wordOf (x .q) l (x .m)) (now (x .word))) (now (x .message))) (all d))
     ∙ c .before .before .read-rest .ensures
 
 pub recover-over-spec : {M : Type 1} → statement M
 recover-over-spec =
     tie.close
     (tie.spec
+    columns-requires
+    mul-c
+    array-share-prefix-columns
     slice-aggregate-write-short-indicators
+    slice-aggregate-write-short-indicators-2
     write-short-indicators-requires
-    slice-aggregate-write-short-grid
-    write-short-grid-requires
     mul-end
     array-borrow-prefix-vectors
     slice-aggregate-eliminate-short
-    slice-aggregate-eliminate-short-2
     eliminate-short-requires
-    slice-aggregate-read-rest
     read-rest-requires
     same-length
     returns)

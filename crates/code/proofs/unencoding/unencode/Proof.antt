@@ -1,18 +1,14 @@
--- `code::unencoding::unencode` meets its contract: a refusal by the checks is the call's; past them the word is read over the full list of
--- columns.
+-- `code::unencoding::unencode` meets its contract: a refusal by the checks is the call's; past them the word is read.
 -- Assumes nothing.
 use mathlib.Core.Bool.{Bool, true, false, false≢true}
-use mathlib.Core.List.{List}
 use mathlib.Core.Path.{_≡_, sym, ap, _∙_, subst}
 use Prim.Native.Nat.{ℕ, _*_, _<_}
 use borrow.Author.Needs.{needs}
 use denote.Ref.{now}
-use lib.ListN.{length, take}
+use lib.ListN.{length}
 use Rattle.field.specs.Curve.{IsCurve, IsShort}
 use Rattle.field.specs.declared.outcome.Outcome.the-variants.{Done}
 use Rattle.field.proofs.Curves.{curve-of-true}
-use Rattle.field.proofs.Fields.{fieldOf}
-use Rattle.poly.specs.inner.Interpolation.{VanishingTree}
 use Rattle.code.specs.Points.{columnsOf}
 use Rattle.code.specs.Terms.{size}
 use Rattle.code.specs.Checks.{callChecks}
@@ -20,7 +16,6 @@ use Rattle.code.specs.inner.Readable.{Readable, readOver}
 use Rattle.code.specs.Unencoded.{unencodeChecks, unencoded}
 use Rattle.code.proofs.Checks.{Accepted, call-done}
 use Rattle.code.proofs.Answers.{not-refused, entry-refused}
-use Rattle.code.proofs.AllColumns.{columns-are, columns-fit, columns-long}
 use Rattle.code.proofs.FullColumns.{readable}
 use Rattle.code.proofs.Stages.{not-long-short}
 use Rattle.code.proofs.unencoding.unencode.Statement.{statement}
@@ -56,10 +51,6 @@ ready c =
 short : (c : tie.Else1) → IsShort (c .before .before .before .before .before .before .before .args .q)
 short c = not-long-short (c .before .before .before .before .before .before .before .args .q) (passed (c .before) .0) (c .if1 .left)
 
--- the columns that are lent
-lent : (c : tie.After-at) → take (c .at .result .symbols) (c .before .columns .result) ≡ columnsOf (c .before .before .before .before .before .before .before .before .before .before .args .q)
-lent c = columns-are (c .before .before .before .before .before .before .before .before .before .before .args .q) (short (c .before .before .before)) _ _ (c .at .ensures) (c .before .columns .ensures)
-
 is-curve-requires : tie.Need-is-curve-requires
 is-curve-requires c κs = search needs
 
@@ -90,41 +81,8 @@ returns-2 c =
     let e = ap (λ (q : ℕ). readOver q (columnsOf q) (x .m) (now (x .word)) (now (x .message))) (c .before .before .before .before .if1 .taken) in
     not-refused _ (now (x .message)) _ (done (c .before .before .before .before .before)) ∙ e ∙ c .before .before .run .ensures
 
-tree-requires : tie.Need-tree-requires
-tree-requires c κs = short c
-
-columns-requires : tie.Need-columns-requires
-columns-requires c κs = search needs
-
-at-requires : tie.Need-at-requires
-at-requires c κs = passed (c .before .before .before) .0
-
-cast-c : tie.Need-cast-c
-cast-c c = search needs
-
-array-share-prefix-columns : tie.Need-array-share-prefix-columns
-array-share-prefix-columns c =
-    let d = c .before .before .before .before in
-    columns-fit (d .before .before .before .before .before .before .before .args .q) (short d) _ _ (c .before .at .ensures) (c .before .before .columns .ensures)
-
-slice-aggregate-read-word : tie.Need-slice-aggregate-read-word
-slice-aggregate-read-word c =
-    let d = c .before .before .before .before .before in
-    columns-long (d .before .before .before .before .before .before .before .args .q) (short d) _ _ (c .before .before .at .ensures) (c .before .before .before .columns .ensures)
-
-slice-aggregate-read-word-2 : tie.Need-slice-aggregate-read-word-2
-slice-aggregate-read-word-2 c = search needs
-
 read-word-requires : tie.Need-read-word-requires
-read-word-requires c κs =
-    let d = c .before .before .before .before .before .before .before in
-    let x = d .before .before .before .before .before .before .before .args in
-    let tree = c .before .before .before .before .before .before .tree in
-    let all = sym (lent (c .before .before .before .before)) in (
-      subst (λ (l : List ℕ). Readable (x .q) l (x .m) (now (x .word)) (now (x .message))) all (ready (d .before)),
-      subst (λ (l : List ℕ). VanishingTree (fieldOf (x .q)) l (tree .result)) all (tree .ensures),
-      short d,
-    )
+read-word-requires c κs = (ready (c .before .before), short (c .before))
 
 same-length-2 : tie.Need-same-length-2
 same-length-2 c = search needs
@@ -132,10 +90,9 @@ same-length-2 c = search needs
 returns-3 : tie.Need-returns-3
 unfolding unencoded
 returns-3 c =
-    let d = c .before .before .before .before .before .before .before .before .before .before .before in
+    let d = c .before .before .before .before .before in
     let x = d .before .before .before .before .before .before .args in
-    let e = ap (λ (l : List ℕ). readOver (x .q) l (x .m) (now (x .word)) (now (x .message))) (sym (lent (c .before .before .before .before .before .before .before))) in
-    not-refused _ (now (x .message)) _ (done d) ∙ e ∙ c .before .before .read-word .ensures
+    not-refused _ (now (x .message)) _ (done d) ∙ c .before .before .read-word .ensures
 
 pub unencode-spec : {M : Type 1} → statement M
 unencode-spec =
@@ -148,13 +105,6 @@ unencode-spec =
     run-requires
     same-length
     returns-2
-    tree-requires
-    columns-requires
-    at-requires
-    cast-c
-    array-share-prefix-columns
-    slice-aggregate-read-word
-    slice-aggregate-read-word-2
     read-word-requires
     same-length-2
     returns-3)

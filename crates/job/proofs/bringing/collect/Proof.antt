@@ -1,13 +1,14 @@
 -- `job::bringing::collect` meets its contract: all columns are lent, and the list of the terms' entries.
 -- Assumes nothing.
 use mathlib.Core.List.{List}
-use mathlib.Core.Path.{_≡_, sym, subst}
+use mathlib.Core.Path.{_≡_, sym, ap, subst}
 use Prim.Native.Nat.{ℕ}
 use native.Mathlib.Omega.{arith}
 use borrow.Author.Needs.{needs}
 use denote.Ref.{now}
 use lib.ListN.{take, replicate}
 use lib.Seq.{length-take-le}
+use Rattle.field.specs.declared.curve.Curve.{Curve}
 use Rattle.poly.specs.inner.Systems.{flat, rank}
 use Rattle.code.specs.Points.{columnsOf}
 use Rattle.code.specs.Terms.{size}
@@ -24,7 +25,7 @@ columns : (c : tie.After-rank)
     → take (c .before .before .before .at .result .symbols) (c .before .before .before .before .columns .result) ≡ columnsOf
     (c .before .before .before .before .before .before .before .before .before .before .args .q)
 columns c = columns-are _ (c .before .before .before .before .before .before .before .before .before .before .pre .0 .4) _ _
-    (c .before .before .before .at .ensures) (c .before .before .before .before .columns .ensures)
+    (ap (λ (v : Curve). v .symbols) (c .before .before .before .at .ensures)) (c .before .before .before .before .columns .ensures)
 
 -- the rows that are counted
 rows : (c : tie.After-rank)
@@ -61,12 +62,12 @@ rank-requires c κs = search needs
 array-share-prefix-columns : tie.Need-array-share-prefix-columns
 array-share-prefix-columns c = columns-fit _
     (c .before .before .before .before .before .before .before .before .before .before .pre .0 .4) _ _
-    (c .before .before .before .at .ensures) (c .before .before .before .before .columns .ensures)
+    (ap (λ (v : Curve). v .symbols) (c .before .before .before .at .ensures)) (c .before .before .before .before .columns .ensures)
 
 slice-aggregate-bring-equations : tie.Need-slice-aggregate-bring-equations
 slice-aggregate-bring-equations c = columns-long _
     (c .before .before .before .before .before .before .before .before .before .before .before .pre .0 .4) _ _
-    (c .before .before .before .before .at .ensures) (c .before .before .before .before .before .columns .ensures)
+    (ap (λ (v : Curve). v .symbols) (c .before .before .before .before .at .ensures)) (c .before .before .before .before .before .columns .ensures)
 
 array-share-prefix-entries : tie.Need-array-share-prefix-entries
 array-share-prefix-entries c = search needs

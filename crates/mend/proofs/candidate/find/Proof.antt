@@ -57,8 +57,8 @@ located c b e =
     let x = c .before .before .before .before .before .before .before .before .before .before .before .before .args in
     subst (Located (x .q) (x .m) (now (x .word)) (c .find .last .1 .1 .1 .1 .0)) e (c .find .ensures)
 
-unencode-requires : tie.Need-unencode-requires
-unencode-requires c κs =
+read-word-requires : tie.Need-read-word-requires
+read-word-requires c κs =
     let s = c .before .before .before in
     let x = s .args in (
       readable (x .q) (x .m) (now (x .word)) (now (x .message)) (short-curve _ (s .pre .0 .curve)) (omega (arith, s .pre .0 .order))
@@ -76,7 +76,7 @@ returns : tie.Need-returns
 returns c =
     let s = c .before .before .before .before .before .before .before .before in
     let x = s .args in
-    let u = c .before .before .before .before .unencode in
+    let u = c .before .before .before .before .read-word in
     unencoded-only (x .q) (x .m) (now (x .word)) (s .pre .0) (now (x .message)) (u .last .1 .1 .1 .0) (u .result) (s .pre .2) (u .ensures)
     (c .enum-told .given .1)
 
@@ -119,7 +119,7 @@ read-rest-requires c κs =
       reached (c .before .before .before .before .before .before .before .before),
       subst (Locator (x .q) (x .m) (now (x .word))) (sym (front-again _ (f .find .last .1 .1 .1 .1 .0) _ (found-long f)))
           (located f _ (c .before .before .if1 .taken)),
-      c .before .before .before .before .before .before .before .before .before .before .before .before .unencode .kept .1 .1 .1 .0 ∙ s .pre .2,
+      c .before .before .before .before .before .before .before .before .before .before .before .before .read-word .kept .1 .1 .1 .0 ∙ s .pre .2,
     )
 
 same-length-2 : tie.Need-same-length-2
@@ -141,7 +141,7 @@ pub find-spec : {M : Type 1} → statement M
 find-spec =
     tie.close
     (tie.spec
-    unencode-requires
+    read-word-requires
     enum-told
     same-length
     returns

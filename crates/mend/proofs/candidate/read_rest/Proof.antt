@@ -18,6 +18,7 @@ use Rattle.code.specs.Recovered.{answerOf, reading}
 use Rattle.code.specs.Terms.{size}
 use Rattle.code.specs.Word.{wordOf}
 use Rattle.code.specs.inner.Recovering.{BrokenOver}
+use Rattle.code.proofs.GapAnswers.{broken-0}
 use Rattle.code.proofs.Recoveries.{readingOf}
 use Rattle.mend.specs.inner.Locating.{reach, Erased}
 use Rattle.poly.proofs.Fronts.{front-fits, front-again, again-long}
@@ -34,12 +35,12 @@ room s = omega (arith, s .pre .0 .long, short-sizes (s .args .q) (s .pre .0 .cur
 lent : (s : tie.Start) → length (take (length (now (s .args .word))) (zeros 64)) ≡ length (now (s .args .word))
 lent s = length-take-le (length (now (s .args .word))) (zeros 64) (room s)
 
-encoded-long : (c : tie.After-encode) → length (c .encode .last .1 .1 .1 .0) ≡ length (now (c .before .before .before .before .before .args .word))
-encoded-long c = c .encode .kept .1 .1 .1 .0 ∙ lent (c .before .before .before .before .before)
+encoded-long : (c : tie.After-write-word) → length (c .write-word .last .1 .1 .1 .0) ≡ length (now (c .before .before .before .before .before .args .word))
+encoded-long c = c .write-word .kept .1 .1 .1 .0 ∙ lent (c .before .before .before .before .before)
 
 erased-long : (c : tie.After-erase) → length (c .erase .last .1 .0)
     ≡ length (now (c .before .before .before .before .before .before .before .before .args .word))
-erased-long c = c .erase .kept .1 .0 ∙ again-long _ (c .before .before .before .encode .last .1 .1 .1 .0) _ (encoded-long (c .before .before .before))
+erased-long c = c .erase .kept .1 .0 ∙ again-long _ (c .before .before .before .write-word .last .1 .1 .1 .0) _ (encoded-long (c .before .before .before))
 
 -- what erasing left is the broken word of the locator
 erased : (c : tie.After-erase) → let x = c .before .before .before .before .before .before .before .before .args in
@@ -47,61 +48,83 @@ erased : (c : tie.After-erase) → let x = c .before .before .before .before .be
 erased c =
     let s = c .before .before .before .before .before .before .before .before in
     let x = s .args in
-    let e = c .before .before .before .encode in
+    let e = c .before .before .before .write-word in
     erased-front (x .q) (x .m) (now (x .word)) (s .pre .0) (x .s) (now (x .locator)) (e .last .1 .1 .1 .0) _ _ (s .pre .1)
     (encoded-long (c .before .before .before)) (e .ensures) (c .erase .ensures)
 
--- what recovery answers of it
-answer : (c : tie.After-recover) → let x = c .before .before .before .before .before .before .before .before .before .before .before .before .args in
-    answerOf (readingOf (x .q) (x .m) (c .before .before .before .before .erase .last .1 .0)) (now (x .message))
-    ≡ answered (c .recover .result) (c .recover .last .1 .1 .1 .0)
-answer c =
-    let s = c .before .before .before .before .before .before .before .before .before .before .before .before in
+broken : (c : tie.After-erase) → let x = c .before .before .before .before .before .before .before .before .args in
+    BrokenOver (x .q) (columnsOf (x .q)) (x .m) (c .erase .last .1 .0)
+broken c =
+    let s = c .before .before .before .before .before .before .before .before in
     let x = s .args in
-    let e = c .before .before .before .before in
+    erased-broken (x .q) (x .m) (now (x .word)) (s .pre .0) (reach (x .q) (x .m)) (now (x .locator)) _ (erased c)
+
+-- what recovery answers of it
+answer : (c : tie.After-recover-over) → let x = c .before .before .before .before .before .before .before .before .before .before .before .before .before .before .before .args in
+    answerOf (readingOf (x .q) (x .m) (c .before .before .before .before .before .before .before .erase .last .1 .0)) (now (x .message))
+    ≡ answered (c .recover-over .result) (c .recover-over .last .1 .1 .1 .1 .0)
+answer c =
+    let e = c .before .before .before .before .before .before .before in
+    let s = e .before .before .before .before .before .before .before .before in
+    let x = s .args in
     ap (λ (Q : ℕ). answerOf (reading Q (size (x .q) (x .m)) (wordOf (x .q) (columnsOf (x .q)) (x .m)) (e .erase .last .1 .0)) (now (x .message)))
     (sym (sizes (x .q) (short-curve _ (s .pre .0 .curve)) .size))
     ∙ ap (λ (l : List ℕ). answerOf (reading (fieldOf (x .q) .size) (size (x .q) (x .m)) (wordOf (x .q) (columnsOf (x .q)) (x .m)) l) (now
     (x .message)))
     (sym (front-again _ (e .erase .last .1 .0) _ (erased-long e)))
-    ∙ c .recover .ensures
+    ∙ c .recover-over .ensures
 
 array-borrow-prefix-located : tie.Need-array-borrow-prefix-located
 array-borrow-prefix-located c = room (c .before .before .before)
 
-slice-aggregate-encode : tie.Need-slice-aggregate-encode
-slice-aggregate-encode c = sym (lent (c .before .before .before .before))
+slice-aggregate-write-word : tie.Need-slice-aggregate-write-word
+slice-aggregate-write-word c = sym (lent (c .before .before .before .before))
 
-encode-requires : tie.Need-encode-requires
-encode-requires c κs =
+write-word-requires : tie.Need-write-word-requires
+write-word-requires c κs =
     let s = c .before .before .before .before in
     let x = s .args in
     (locator-encodable (x .q) (x .m) (now (x .word)) (s .pre .0) (x .s) (now (x .locator)) _ (s .pre .1) (s .pre .2) (lent s), s .pre .0 .curve)
 
 array-borrow-prefix-located-2 : tie.Need-array-borrow-prefix-located-2
-array-borrow-prefix-located-2 c = front-fits _ (c .before .encode .last .1 .1 .1 .0) _ (encoded-long (c .before))
+array-borrow-prefix-located-2 c = front-fits _ (c .before .write-word .last .1 .1 .1 .0) _ (encoded-long (c .before))
 
 slice-aggregate-erase : tie.Need-slice-aggregate-erase
-slice-aggregate-erase c = sym (again-long _ (c .before .before .encode .last .1 .1 .1 .0) _ (encoded-long (c .before .before)))
+slice-aggregate-erase c = sym (again-long _ (c .before .before .write-word .last .1 .1 .1 .0) _ (encoded-long (c .before .before)))
 
 erase-requires : tie.Need-erase-requires
-erase-requires c κs = again-long _ (c .before .before .encode .last .1 .1 .1 .0) _ (encoded-long (c .before .before))
+erase-requires c κs = again-long _ (c .before .before .write-word .last .1 .1 .1 .0) _ (encoded-long (c .before .before))
 
 array-share-prefix-located : tie.Need-array-share-prefix-located
 array-share-prefix-located c = front-fits _ (c .before .erase .last .1 .0) _ (erased-long (c .before))
 
-slice-aggregate-recover : tie.Need-slice-aggregate-recover
-slice-aggregate-recover c = sym (again-long _ (c .before .before .erase .last .1 .0) _ (erased-long (c .before .before)))
+slice-aggregate-known-short-grid : tie.Need-slice-aggregate-known-short-grid
+slice-aggregate-known-short-grid c = sym (again-long _ (c .before .before .erase .last .1 .0) _ (erased-long (c .before .before)))
 
-recover-requires : tie.Need-recover-requires
-recover-requires c κs =
-    let s = c .before .before .before .before .before .before .before .before .before .before .before in
-    let x = s .args in
-    let e = c .before .before .before in (
-      subst (BrokenOver (x .q) (columnsOf (x .q)) (x .m)) (sym (front-again _ (e .erase .last .1 .0) _ (erased-long e)))
-          (erased-broken (x .q) (x .m) (now (x .word)) (s .pre .0) (reach (x .q) (x .m)) (now (x .locator)) _ (erased e)),
-      s .pre .3,
-      s .pre .0 .curve,
+known-short-grid-requires : tie.Need-known-short-grid-requires
+known-short-grid-requires c κs =
+    let e = c .before .before in
+    let s = e .before .before .before .before .before .before .before .before in
+    let q = s .args .q in
+    (subst (BrokenOver q (columnsOf q) 0) (sym (front-again _ (e .erase .last .1 .0) _ (erased-long e))) (broken-0 _ _ _ _ (broken e)), s .pre .0 .curve)
+
+array-share-prefix-located-2 : tie.Need-array-share-prefix-located-2
+array-share-prefix-located-2 c = let e = c .before .before .before in front-fits _ (e .erase .last .1 .0) _ (erased-long e)
+
+slice-aggregate-recover-over : tie.Need-slice-aggregate-recover-over
+slice-aggregate-recover-over c = let e = c .before .before .before .before in sym (again-long _ (e .erase .last .1 .0) _ (erased-long e))
+
+recover-over-requires : tie.Need-recover-over-requires
+recover-over-requires c κs =
+    let e = c .before .before .before .before .before .before in
+    let s = e .before .before .before .before .before .before .before .before in
+    let x = s .args in (
+      (
+        subst (BrokenOver (x .q) (columnsOf (x .q)) (x .m)) (sym (front-again _ (e .erase .last .1 .0) _ (erased-long e))) (broken e),
+        s .pre .3,
+        s .pre .0 .curve,
+      ),
+      c .before .before .before .known-short-grid .ensures,
     )
 
 enum-told : tie.Need-enum-told
@@ -112,36 +135,41 @@ same-length c = search needs
 
 returns : tie.Need-returns
 returns c =
-    let s = c .before .before .before .before .before .before .before .before .before .before .before .before .before .before .before in
-    let x = s .args in
     let r = c .before .before .before in
-    recovered-none (x .q) (x .m) (now (x .word)) (s .pre .0) (now (x .locator)) _ (s .pre .2) (erased (r .before .before .before .before))
-    (now (x .message)) _ _ (answer r) (not-done (r .recover .result) (c .match .keys2))
+    let e = r .before .before .before .before .before .before .before in
+    let s = e .before .before .before .before .before .before .before .before in
+    let x = s .args in
+    recovered-none (x .q) (x .m) (now (x .word)) (s .pre .0) (now (x .locator)) _ (s .pre .2) (erased e) (now (x .message)) _ _ (answer r)
+    (not-done (r .recover-over .result) (c .match .keys2))
 
 same-length-2 : tie.Need-same-length-2
 same-length-2 c = search needs
 
 returns-2 : tie.Need-returns-2
 returns-2 c =
-    let s = c .before .before .before .before .before .before .before .before .before .before .before .before .before .before .before .before in
-    let x = s .args in
     let r = c .before .before .before .before in
-    recovered-only (x .q) (x .m) (now (x .word)) (s .pre .0) (now (x .locator)) _ (s .pre .2) (erased (r .before .before .before .before))
-    (now (x .message)) _ _ (answer r) (c .enum-told .given .1)
+    let e = r .before .before .before .before .before .before .before in
+    let s = e .before .before .before .before .before .before .before .before in
+    let x = s .args in
+    recovered-only (x .q) (x .m) (now (x .word)) (s .pre .0) (now (x .locator)) _ (s .pre .2) (erased e) (now (x .message)) _ _ (answer r)
+    (c .enum-told .given .1)
 
 pub read-rest-spec : {M : Type 1} → statement M
 read-rest-spec =
     tie.close
     (tie.spec
     array-borrow-prefix-located
-    slice-aggregate-encode
-    encode-requires
+    slice-aggregate-write-word
+    write-word-requires
     array-borrow-prefix-located-2
     slice-aggregate-erase
     erase-requires
     array-share-prefix-located
-    slice-aggregate-recover
-    recover-requires
+    slice-aggregate-known-short-grid
+    known-short-grid-requires
+    array-share-prefix-located-2
+    slice-aggregate-recover-over
+    recover-over-requires
     enum-told
     same-length
     returns

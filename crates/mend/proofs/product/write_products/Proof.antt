@@ -11,7 +11,7 @@ use Rattle.poly.proofs.Parts.{length-part}
 use Rattle.code.specs.Points.{columnsOf}
 use Rattle.code.proofs.FullColumns.{length-upTo, full-columns, full-places}
 use Rattle.mend.specs.inner.Products.{Products}
-use Rattle.mend.proofs.ProductGrids.{product-start}
+use Rattle.mend.proofs.ProductGrids.{full-word, takes-grid, product-start}
 use Rattle.mend.proofs.ProductBlocks.{block-before, one-part, Producing, producing-none, producing-more}
 use Rattle.mend.proofs.product.write_products.Statement.{statement}
 use Rattle.mend.proofs.product.write_products.Tie as tie
@@ -41,20 +41,22 @@ mul-part c =
     let s = c .before .before in
     omega (arith, s .pre .1, one-part (s .args .q) (s .args .count) (short-curve _ (s .pre .0 .0)))
 
-interpolate-requires : tie.Need-interpolate-requires Inv-loop μ-loop
-interpolate-requires c κs = c .before .before .pre .0
+interpolate-short-requires : tie.Need-interpolate-short-requires Inv-loop μ-loop
+interpolate-short-requires c κs =
+    let s = c .before .before in
+    (full-word (s .args .q) (short-curve _ (s .pre .0 .0)) (now (s .args .word)) (s .pre .0 .1) (s .pre .0 .2), s .pre .0 .0)
 
 loop-holds : tie.Need-loop-holds Inv-loop μ-loop
 loop-holds c =
     let s = c .before .before .before in
     let q = s .args .q in
-    let r = c .interpolate in (
+    let r = c .interpolate-short in (
       omega arith,
       λ curve. producing-none q (columnsOf q) (full-columns q curve) (length-upTo (q * q)) (now (s .args .word)) (s .args .count) (now
           (s .args .grids))
           (r .result) (r .ensures .1)
           (product-start q (columnsOf q) (full-columns q curve) (length-upTo (q * q)) (now (s .args .word)) (r .result) (s .pre .0 .2)
-          (r .ensures .0)),
+          (takes-grid q (columnsOf q) (full-columns q curve) (length-upTo (q * q)) (now (s .args .word)) (r .result) (r .ensures .0))),
     )
 
 add-end : tie.Need-add-end Inv-loop μ-loop
@@ -135,7 +137,7 @@ write-products-spec =
     Inv-loop
     μ-loop
     mul-part
-    interpolate-requires
+    interpolate-short-requires
     loop-holds
     add-end
     slice-aggregate-write-multiples

@@ -86,6 +86,7 @@ write-crossed-requires c κs =
           right-below = placed-below size _ _ _ pos (r .kept .1 .1 .0)
               (below-part size (now (s .args .work)) (16 * s .args .h) (length (now (s .args .work))) (s .pre .0 .work-below)) (r .ensures);
           same = s .pre .0 .g-long ∙ sym (s .pre .0 .f-long);
+          narrow = s .pre .1;
           low = rw (s .pre .0 .f-long) (coefficients-few _ _ _ _ _ _ _ (s .pre .0) (s .pre .1) (s .pre .2));
           high = omega arith;
         },

@@ -13,21 +13,21 @@ use Rattle.poly.proofs.interpolation.place.Statement.{statement}
 use Rattle.poly.proofs.interpolation.place.Tie as tie
 
 abbrev Inv-loop : tie.InvT-loop
-Inv-loop n src out₀ at₀ out at = (at < n + 16) × Filled 48 (λ e. getD src e 0) out₀ out at
+Inv-loop n src out₀ at₀ out at = (at < n + 16) × Filled 32 (λ e. getD src e 0) out₀ out at
 
 abbrev μ-loop : tie.MeasureT-loop
 μ-loop n src out₀ at₀ out at = n + 16 - at
 
 -- the block is within the list
-fits : (c : tie.In-loop Inv-loop μ-loop) → 48 + c .before .loop .at + 16 ≤ length (c .before .loop .out)
+fits : (c : tie.In-loop Inv-loop μ-loop) → 32 + c .before .loop .at + 16 ≤ length (c .before .loop .out)
 fits c =
     let s = c .before .before .before .before in
     let l = c .before .loop in
     block-end (s .args .n) (l .at) (length (l .out)) (l .inv .1 .blocks) (l .inv .1 .is-at) (s .pre .0 .0)
-    (l .inv .1 .long ∙ ap length (s .pre .1) ∙ length-replicate {A = ℕ} 112 0) (c .loop-test .taken)
+    (l .inv .1 .long ∙ ap length (s .pre .1) ∙ length-replicate {A = ℕ} 96 0) (c .loop-test .taken)
 
 loop-holds : tie.Need-loop-holds Inv-loop μ-loop
-loop-holds c = let a = c .before .before .args in (omega arith, filled-none 48 (λ e. getD (now (a .src)) e 0) (now (a .out)))
+loop-holds c = let a = c .before .before .args in (omega arith, filled-none 32 (λ e. getD (now (a .src)) e 0) (now (a .out)))
 
 take-requires : tie.Need-take-requires Inv-loop μ-loop
 take-requires c κs =
@@ -61,7 +61,7 @@ copy-requires c κs =
         ap length (c .before .before .take .ensures),
         length-lanes (λ t. getD (now (c .before .before .before .before .before .before .before .args .src)) (l .at + t) 0),
       ),
-      omega (arith, length-part (l .out) (48 + l .at) (48 + l .at + 16) (omega arith) (fits (c .before .before .before))),
+      omega (arith, length-part (l .out) (32 + l .at) (32 + l .at + 16) (omega arith) (fits (c .before .before .before))),
     )
 
 add-at : tie.Need-add-at Inv-loop μ-loop
@@ -76,7 +76,7 @@ loop-again c =
     let l = c .before .before .before .before .before .before .before .loop in
     let t = c .before .before .before .before .before .take in (
       omega (arith, c .before .before .before .before .before .before .loop-test .taken),
-      filled-turn 48 (λ e. getD (now (s .args .src)) e 0) (now (s .args .out)) (l .out) (l .at) (48 + l .at) (l .inv .1) refl
+      filled-turn 32 (λ e. getD (now (s .args .src)) e 0) (now (s .args .out)) (l .out) (l .at) (32 + l .at) (l .inv .1) refl
           (fits (c .before .before .before .before .before .before)) _ _
           (omega (arith, ap length (t .ensures), length-lanes (λ t. getD (now (s .args .src)) (l .at + t) 0))) (c .before .before .copy .ensures)
           (λ i k. ap (λ (x : List ℕ). getD x i 0) (t .ensures) ∙ lanes-at _ i k),
@@ -90,7 +90,7 @@ returns c =
     let s = c .before .before .before .before in
     let l = c .before .loop in
     filled-placed (s .args .n) (now (s .args .src)) (l .out) (l .at) (s .pre .0 .2) (s .pre .0 .0)
-    (subst (λ (x : List ℕ). Filled 48 (λ e. getD (now (s .args .src)) e 0) x (l .out) (l .at)) (s .pre .1) (l .inv .1))
+    (subst (λ (x : List ℕ). Filled 32 (λ e. getD (now (s .args .src)) e 0) x (l .out) (l .at)) (s .pre .1) (l .inv .1))
     (c .loop-test .left) (l .inv .0)
 
 pub place-spec : {M : Type 1} → statement M

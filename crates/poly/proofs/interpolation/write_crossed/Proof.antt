@@ -18,7 +18,7 @@ use Rattle.poly.proofs.interpolation.write_crossed.Tie as tie
 
 abbrev Inv-loop : tie.InvT-loop
 Inv-loop q w n f g left right work₀ at₀ work at =
-    (at < n + 16) × Filled 0 (λ p. crossed (fieldOf q) w (length f) f g left right (48 + p)) work₀ work at
+    (at < n + 16) × Filled 0 (λ p. crossed (fieldOf q) w (length f) f g left right (32 + p)) work₀ work at
 
 abbrev μ-loop : tie.MeasureT-loop
 μ-loop q w n f g left right work₀ at₀ work at = n + 16 - at
@@ -48,6 +48,7 @@ cross-requires c κs =
         left-below = p .0 .left-below;
         right-below = p .0 .right-below;
         same = p .0 .same;
+        narrow = p .0 .narrow;
         low = omega (arith, p .0 .low);
         high = omega (arith, p .1, c .loop-test .taken);
       },
@@ -91,7 +92,7 @@ loop-again c =
           (omega (arith, ap length (r .ensures) ∙ length-lanes _)) (c .before .before .copy .ensures)
           (λ i k. ap (λ (x : List ℕ). getD x i 0) (r .ensures) ∙ lanes-at _ i k
           ∙ ap (crossed (fieldOf (a .q)) (a .w) (length (now (a .f))) (now (a .f)) (now (a .g)) (now (a .left)) (now (a .right)))
-          (add-assoc 48 (l .at) i)),
+          (add-assoc 32 (l .at) i)),
     )
 
 same-length : tie.Need-same-length Inv-loop μ-loop
@@ -104,7 +105,7 @@ returns c =
     let l = c .before .loop in (
       filled-written (a .n) _ (now (a .work)) (l .work) (l .at) (l .inv .1) (c .loop-test .left),
       filled-below (fieldOf (a .q) .size) _ (now (a .work)) (l .work) (l .at) (l .inv .1) (s .pre .1 .1)
-          (λ e. crossed-lt (fieldOf (a .q)) (a .w) (now (a .f)) (now (a .g)) (now (a .left)) (now (a .right)) (length (now (a .f))) (48 + e)),
+          (λ e. crossed-lt (fieldOf (a .q)) (a .w) (now (a .f)) (now (a .g)) (now (a .left)) (now (a .right)) (length (now (a .f))) (32 + e)),
     )
 
 pub write-crossed-spec : {M : Type 1} → statement M

@@ -85,7 +85,7 @@ fn run_on_slices(
     match op {
         b'e' => code::encoding::encode(q, m, input, output),
         b'u' => code::unencoding::unencode(q, m, input, output),
-        b'r' => code::recovery::recover(q, m, input, output),
+        b'r' => recovery::recover(q, m, input, output),
         _ => session.ask(output),
     }
 }

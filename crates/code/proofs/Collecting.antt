@@ -13,14 +13,14 @@ use lib.Seq.{ext-getD}
 use Rattle.field.proofs.Fields.{fieldOf}
 use Rattle.field.proofs.FieldLaws.{zero-lt}
 use Rattle.poly.specs.inner.Linear.{entry, dot, Holds}
-use Rattle.poly.specs.inner.Systems.{flat, Satisfies, rank, WellFormed, Joined, Brought, Solves}
-use Rattle.poly.specs.declared.system.Effect.the-variants.{Pivot, Redundant, Contradiction}
+use Rattle.linear.specs.inner.Systems.{flat, Satisfies, rank, WellFormed, Joined, Brought, Solves}
+use Rattle.linear.specs.declared.system.Effect.the-variants.{Pivot, Redundant, Contradiction}
 use Rattle.poly.specs.inner.Ranges.{Below, writes}
 use Rattle.poly.specs.inner.Rows.{stored}
 use Rattle.poly.proofs.Writes.{length-writes, writes-in}
 use Rattle.poly.proofs.Messages.{vector-below}
 use Rattle.poly.proofs.Linear.{dot-cong}
-use Rattle.poly.proofs.WellFormed.{blank-rank, blank-satisfied}
+use Rattle.linear.proofs.WellFormed.{blank-rank, blank-satisfied}
 use Rattle.code.specs.Terms.{size}
 use Rattle.code.specs.inner.Rows.{rowOf, equationOf}
 use Rattle.code.specs.inner.Recovering.{FitsBelow, FitsAt, Collected, Taken, Advanced}

@@ -20,9 +20,9 @@ use Rattle.field.proofs.Curves.{sizes, short-sizes, short-curve}
 use Rattle.poly.specs.inner.Ranges.{Below, writes, part, Blocks}
 use Rattle.poly.specs.inner.Linear.{entry}
 use Rattle.poly.specs.inner.Rows.{scaled, stored}
-use Rattle.poly.specs.inner.Systems.{Equation, Brought}
-use Rattle.poly.specs.declared.system.Effect.{Effect}
-use Rattle.poly.proofs.Bringing.{brought-same}
+use Rattle.linear.specs.inner.Systems.{Equation, Brought}
+use Rattle.linear.specs.declared.system.Effect.{Effect}
+use Rattle.linear.proofs.Bringing.{brought-same}
 use Rattle.poly.proofs.Blocks.{blocks-more, blocks-at}
 use Rattle.poly.proofs.Lists.{getD-map}
 use Rattle.poly.proofs.Multiples.{length-scaled, scaled-in, below-scaled}

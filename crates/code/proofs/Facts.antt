@@ -15,7 +15,7 @@ use Rattle.field.proofs.Curves.{sizes}
 use Rattle.poly.specs.Lists.{Nodup, count}
 use Rattle.poly.specs.Messages.{Vector, all}
 use Rattle.poly.specs.inner.Linear.{entry, dot}
-use Rattle.poly.proofs.Elimination.{PowerOrNone, Meets, eliminate, power-or-none}
+use Rattle.linear.proofs.Elimination.{PowerOrNone, Meets, eliminate, power-or-none}
 use Rattle.code.specs.Points.{columnsOf}
 use Rattle.code.specs.Terms.{size}
 use Rattle.code.specs.Word.{wordOf}

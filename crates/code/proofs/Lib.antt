@@ -32,15 +32,6 @@ pub mod ReadingSystems
 pub mod ColumnInterpolation
 pub mod SymbolPowers
 pub mod WordGrids
-pub mod PointGrids
-pub mod GapGrids
-pub mod GapReadings
-pub mod GapRows
-pub mod IndicatorBlocks
-pub mod IndicatorRows
-pub mod KnownGrids
-pub mod GapAnswers
-pub mod HeavyMarks
 pub mod Inverse
 pub mod PaperValues
 pub mod HighOrders

@@ -8,13 +8,12 @@ use Prim.Native.Nat.{ℕ, _+_, _*_, _/_, _%_, _≤_, _<_}
 use native.Mathlib.Nat.{div-add-mod, mod-lt}
 use native.Mathlib.Decide.{ℕ-discrete, decLt}
 use native.Mathlib.Omega.{arith}
-use lib.Dec.{T, ltb}
+use lib.Dec.{T}
 use lib.ListN.{length, getD}
 use Rattle.field.specs.Curve.{IsCurve}
-use Rattle.field.specs.Tests.{every}
 use Rattle.field.proofs.Curves.{sizes}
 use Rattle.field.proofs.Fields.{fieldOf}
-use Rattle.field.proofs.Table.{agrees}
+use Rattle.field.proofs.Table.{agrees, allBelow}
 use Rattle.poly.proofs.Blocks.{block-of, block-fits}
 use Rattle.code.specs.Points.{onCurve, ysOf}
 use Rattle.code.specs.PointTable.{xOf, yOf, PointTable}
@@ -84,7 +83,7 @@ module _ (q : ℕ) (curve : IsCurve q) (table : List ℕ) (h : Ys q table) where
 
 -- by two computed tests
 pub points-table : (q : ℕ) → IsCurve q → (n : ℕ) (f : ℕ → ℕ) → ((p : ℕ) → p < q * q * q → f p ≡ yAt q p) → q * q * q ≤ n → (list : List ℕ)
-    → length list ≡ n → T (agrees f 0 (q * q * q) list) → T (every n (λ p. ltb (getD list p 0) (fieldOf q .size))) → Ys q list × PointTable q list
+    → length list ≡ n → T (agrees f 0 (q * q * q) list) → T (allBelow (fieldOf q .size) list) → Ys q list × PointTable q list
 points-table q curve n f same points list long test small =
     let h = ys-table q curve n f same points list long test small in
     (h, point-table q curve list h)

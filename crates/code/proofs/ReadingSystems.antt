@@ -7,9 +7,9 @@ use native.Mathlib.Omega.{arith}
 use lib.ListN.{length}
 use Rattle.field.proofs.Fields.{fieldOf}
 use Rattle.poly.specs.inner.Linear.{entry}
-use Rattle.poly.specs.inner.Systems.{flat}
-use Rattle.poly.proofs.Solutions.{solutions-by}
-use Rattle.poly.proofs.WellFormed.{triangular}
+use Rattle.linear.specs.inner.Systems.{flat}
+use Rattle.linear.proofs.Solutions.{solutions-by}
+use Rattle.linear.proofs.WellFormed.{triangular}
 use Rattle.code.specs.Terms.{size}
 use Rattle.code.specs.Word.{wordOf}
 use Rattle.code.specs.Fitting.{fits}

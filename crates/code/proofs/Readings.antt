@@ -14,7 +14,7 @@ use lib.ListN.{length, getD}
 use Rattle.poly.specs.Lists.{count}
 use Rattle.poly.specs.Messages.{Vector, all}
 use Rattle.poly.specs.Sets.{ListOf, Alone, TwoOrMore, Exactly}
-use Rattle.poly.proofs.Elimination.{PowerOrNone}
+use Rattle.linear.proofs.Elimination.{PowerOrNone}
 use Rattle.poly.proofs.Filter.{mem-filter, of-mem-filter, nodup-filter, length-filter}
 use Rattle.poly.proofs.Messages.{mem-all, of-mem-all, nodup-all}
 use Rattle.poly.proofs.Sets.{same-length}

@@ -2,19 +2,16 @@
 -- Assumes nothing.
 use mathlib.Core.List.{List}
 use mathlib.Core.Path.{_≡_, refl, sym, ap, ap₂, _∙_}
-use Prim.Native.Nat.{ℕ, _+_, _-_, _*_, _/_, _%_, _≤_, _<_}
+use Prim.Native.Nat.{ℕ, _+_, _*_, _/_, _%_, _≤_, _<_}
 use native.Mathlib.Nat.{mul-suc, mul-le-mul-left}
-use native.Mathlib.Decide.{decLt}
 use native.Mathlib.Omega.{arith}
-use lib.Dec.{T, ltb, ltb→lt}
-use lib.ListN.{length, getD, take, List·getD-eq-default}
+use lib.Dec.{T}
+use lib.ListN.{length, getD, take}
 use lib.Seq.{ext-getD}
 use Rattle.field.specs.Curve.{IsCurve, IsShort}
-use Rattle.field.specs.Tests.{every}
-use Rattle.field.proofs.Search.{of-every}
 use Rattle.field.proofs.Fields.{fieldOf}
 use Rattle.field.proofs.FieldLaws.{zero-lt}
-use Rattle.field.proofs.Table.{agrees, entry}
+use Rattle.field.proofs.Table.{agrees, entry, allBelow, below-entry}
 use Rattle.field.proofs.Curves.{each-short, sizes}
 use Rattle.poly.specs.inner.Lanes.{lanes}
 use Rattle.poly.proofs.LaneLaws.{lanes-at, lanes-below}
@@ -32,18 +29,11 @@ use Rattle.code.proofs.Weights.{quotient, remainder}
 abbrev pub yAt : ℕ → ℕ → ℕ
 yAt q p = getD (ysOf q (p / q)) (p % q) 0
 
--- a table of n numbers, each of which is below b
-pub small-table : (n b : ℕ) (list : List ℕ) → length list ≡ n → 0 < b → T (every n (λ p. ltb (getD list p 0) b)) → Below b list
-small-table n b list long pos small p = elim (decLt p n) [
-  | yes l ↦ ltb→lt (getD list p 0) b (of-every n (λ p. ltb (getD list p 0) b) small p l)
-  | no d ↦ rw (List·getD-eq-default list 0 {n = p} (omega arith)) pos
-]
-
 -- f is the y at each place, by a formula that is quickly worked out
 pub ys-table : (q : ℕ) → IsCurve q → (n : ℕ) (f : ℕ → ℕ) → ((p : ℕ) → p < q * q * q → f p ≡ yAt q p) → q * q * q ≤ n → (list : List ℕ)
-    → length list ≡ n → T (agrees f 0 (q * q * q) list) → T (every n (λ p. ltb (getD list p 0) (fieldOf q .size))) → Ys q list
+    → length list ≡ n → T (agrees f 0 (q * q * q) list) → T (allBelow (fieldOf q .size) list) → Ys q list
 ys-table q curve n f same points list long test small =
-    record { long = omega arith; column = column; symbols = small-table n (fieldOf q .size) list long (zero-lt (fieldOf q)) small }
+    record { long = omega arith; column = column; symbols = below-entry (fieldOf q .size) list (zero-lt (fieldOf q)) small }
   where
     within : (x : ℕ) → x < q * q → q * x + q ≤ q * q * q
     within x l = omega (arith, sizes q curve .grid, mul-suc q x, mul-le-mul-left q l)

@@ -4,6 +4,4 @@ pub mod Encodable
 pub mod Rows
 pub mod Recovering
 pub mod Readable
-pub mod Indicators
-pub mod Gaps
 pub mod Highest

@@ -6,7 +6,7 @@ ghost use Rattle.field.specs.Curve.{IsShort};
 ghost use Rattle.field.specs.Power.{power};
 ghost use Rattle.field.proofs.Fields.{fieldOf};
 ghost use Rattle.poly.specs.inner.Ranges.{writes, Blocks};
-ghost use Rattle.poly.specs.inner.Systems.{WellFormed, Brought};
+ghost use Rattle.linear.specs.inner.Systems.{WellFormed, Brought};
 ghost use Rattle.code.specs.Terms.{size};
 ghost use Rattle.code.specs.inner.Grid.{entriesOf};
 ghost use Rattle.code.specs.inner.Columns.{Columns};
@@ -15,9 +15,9 @@ ghost use Rattle.code.specs.inner.Recovering.{termAt, EquationAt, Advanc
 use crate::grid;
 use crate::point;
 use crate::term;
+use linear::system;
+use linear::system::Effect;
 use poly::rows;
-use poly::system;
-use poly::system::Effect;
 
 // The rows of a system after a symbol was brought in, and whether that contradicts the others.
 pub struct Progress {

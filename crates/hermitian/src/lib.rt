@@ -6,7 +6,6 @@ ghost use Rattle.code.specs.Recovered.{recovered};
 ghost use Rattle.code.specs.Unencoded.{unencoded};
 ghost use Rattle.mend.specs.Mended.{mended};
 use code::encoding;
-use code::recovery;
 use code::unencoding;
 use field::outcome;
 

@@ -3,7 +3,6 @@
 ghost use lib.ListN.{length};
 ghost use Rattle.code.specs.Packed.{Packed};
 ghost use Rattle.code.specs.RecoveredLong.{recoveredLong, KeptUnlessWorked};
-use code::recovery;
 use field::outcome;
 
 #[no_mangle]

@@ -11,7 +11,7 @@ use lib.ListN.{length, take}
 use Rattle.field.specs.Curve.{IsCurve}
 use Rattle.field.proofs.Curves.{sizes, two-symbols}
 use Rattle.poly.specs.Sets.{ListOf, Exactly}
-use Rattle.poly.proofs.Elimination.{PowerOrNone}
+use Rattle.linear.proofs.Elimination.{PowerOrNone}
 use Rattle.poly.proofs.Sets.{same-length, list-iff}
 use Rattle.code.specs.Points.{columnsOf}
 use Rattle.code.specs.Terms.{size}

@@ -23,7 +23,7 @@ use Rattle.field.proofs.FieldLaws.{zero-lt}
 use Rattle.poly.specs.Lists.{count, below}
 use Rattle.poly.specs.inner.Ranges.{Below}
 use Rattle.poly.specs.inner.Linear.{entry}
-use Rattle.poly.specs.inner.Systems.{System, flat, rank, WellFormed}
+use Rattle.linear.specs.inner.Systems.{System, flat, rank, WellFormed}
 use Rattle.poly.proofs.Bools.{T-true, true-or-false, parts, of-or, or-left, or-right, implies, implied}
 use Rattle.job.specs.inner.Formed.{rowFormed, rowsFormed, symbolsBelow, wellFormed}
 

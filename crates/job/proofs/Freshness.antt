@@ -18,10 +18,10 @@ use Rattle.field.proofs.Fields.{fieldOf}
 use Rattle.poly.specs.inner.Linear.{entry}
 use Rattle.poly.specs.inner.Ranges.{writes}
 use Rattle.poly.specs.inner.Rows.{stored}
-use Rattle.poly.specs.inner.Systems.{flat, rank}
+use Rattle.linear.specs.inner.Systems.{flat, rank}
 use Rattle.poly.proofs.Writes.{length-writes, writes-in, writes-out}
 use Rattle.poly.proofs.Entries.{getD-zeros}
-use Rattle.poly.proofs.WellFormed.{blank-formed, blank-rank}
+use Rattle.linear.proofs.WellFormed.{blank-formed, blank-rank}
 use Rattle.code.specs.Points.{columnsOf}
 use Rattle.code.specs.Terms.{size}
 use Rattle.code.specs.inner.Recovering.{Collected}

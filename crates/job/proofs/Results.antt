@@ -11,7 +11,7 @@ use borrow.Author.Tests.{eq-eqb, ne-eqb}
 use lib.Dec.{eqb}
 use lib.ListN.{length, take}
 use Rattle.field.specs.declared.outcome.Outcome.the-variants.{Done}
-use Rattle.poly.specs.inner.Systems.{flat, rank}
+use Rattle.linear.specs.inner.Systems.{flat, rank}
 use Rattle.code.specs.Terms.{size}
 use Rattle.code.specs.Recovered.{Reading, nothing, message, several, answerOf}
 use Rattle.job.specs.declared.bringing.Progress.{Progress}

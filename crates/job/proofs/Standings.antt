@@ -13,8 +13,8 @@ use lib.ListN.{length, getD}
 use Rattle.field.proofs.Fields.{fieldOf}
 use Rattle.poly.specs.Messages.{Vector}
 use Rattle.poly.specs.inner.Linear.{entry}
-use Rattle.poly.specs.inner.Systems.{flat, rank, WellFormed, Solves}
-use Rattle.poly.proofs.Solutions.{solves-vector, solves-only}
+use Rattle.linear.specs.inner.Systems.{flat, rank, WellFormed, Solves}
+use Rattle.linear.proofs.Solutions.{solves-vector, solves-only}
 use Rattle.code.specs.Points.{columnsOf}
 use Rattle.code.specs.Terms.{size}
 use Rattle.code.specs.Word.{wordOf}

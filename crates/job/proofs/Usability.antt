@@ -20,7 +20,7 @@ use Rattle.field.proofs.Fields.{fieldOf}
 use Rattle.field.proofs.Outcomes.{done-or-not}
 use Rattle.field.proofs.Values.{all-good, none-found, symbol-of-good, good-symbol}
 use Rattle.poly.specs.Messages.{Vector}
-use Rattle.poly.specs.inner.Systems.{WellFormed}
+use Rattle.linear.specs.inner.Systems.{WellFormed}
 use Rattle.poly.proofs.Bools.{T-true}
 use Rattle.code.specs.Terms.{size}
 use Rattle.code.specs.Checks.{callChecks}

@@ -9,7 +9,7 @@ use Rattle.field.specs.declared.outcome.Outcome.the-variants.{Done}
 use Rattle.field.proofs.Fields.{fieldOf}
 use Rattle.poly.specs.Messages.{Vector}
 use Rattle.poly.specs.inner.Linear.{entry}
-use Rattle.poly.specs.inner.Systems.{flat, rank}
+use Rattle.linear.specs.inner.Systems.{flat, rank}
 use Rattle.code.specs.Points.{columnsOf}
 use Rattle.code.specs.Terms.{size}
 use Rattle.code.specs.Word.{wordOf}

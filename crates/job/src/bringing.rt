@@ -5,7 +5,7 @@ ghost use Prim.Native.Nat.{_*_, _≤_, _<_};
 ghost use lib.ListN.{length};
 ghost use Rattle.field.specs.Curve.{IsShort};
 ghost use Rattle.field.proofs.Fields.{fieldOf};
-ghost use Rattle.poly.specs.inner.Systems.{flat, rank, WellFormed, Full, Solves};
+ghost use Rattle.linear.specs.inner.Systems.{flat, rank, WellFormed, Full, Solves};
 ghost use Rattle.code.specs.Points.{columnsOf};
 ghost use Rattle.code.specs.Terms.{size};
 ghost use Rattle.code.specs.Word.{wordOf};
@@ -18,7 +18,7 @@ use code::equation;
 use code::point;
 use code::term;
 use field::Curve;
-use poly::system;
+use linear::system;
 
 // How far a call has come: the next place, the rows of the system, whether the symbols contradict each other, and how many
 // this call has brought in.

@@ -3,7 +3,7 @@ ghost use mathlib.Core.Path.{_≡_};
 ghost use Prim.Native.Nat.{_*_, _<_};
 ghost use lib.ListN.{length};
 ghost use Rattle.field.specs.Curve.{IsShort};
-ghost use Rattle.poly.specs.inner.Systems.{flat, rank};
+ghost use Rattle.linear.specs.inner.Systems.{flat, rank};
 ghost use Rattle.job.specs.inner.Formed.{rowFormed, rowsFormed, wellFormed};
 use code::check;
 

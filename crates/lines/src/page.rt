@@ -8,7 +8,6 @@ ghost use Rattle.lines.specs.Page.{character as Page·character};
 ghost use Rattle.lines.specs.Page.{pointText, columnLine, severalText, resultText, lastLine, pageOf, pagesOf};
 use crate::text;
 use code::point;
-use code::recovery;
 use field::outcome;
 
 // The character of a stored value.

@@ -50,7 +50,7 @@ fn run_on_slices(op: u8, q: u8, m: u16, input: &[u8], output: &mut [u8]) -> Outc
     match op {
         b'e' => code::encoding::encode(q, m, input, output),
         b'u' => code::unencoding::unencode(q, m, input, output),
-        _ => code::recovery::recover(q, m, input, output),
+        _ => recovery::recover(q, m, input, output),
     }
 }
 
@@ -105,7 +105,7 @@ fn print_work(outcome: Outcome, work: &[u8], byte: u8) {
 }
 
 fn long_answer(m: u16, word: &[u8], message: &mut [u8], work: &mut [u8], byte: u8) {
-    let outcome = code::recovery::recover_long(m, word, message, work);
+    let outcome = recovery::recover_long(m, word, message, work);
     print_answer(b'l', outcome);
     print_values(message, b' ');
     print_work(outcome, work, byte);

@@ -13,13 +13,13 @@ use Rattle.field.proofs.FieldLaws.{zero-lt}
 use Rattle.field.proofs.Fields.{fieldOf}
 use Rattle.poly.specs.inner.Linear.{entry, dot}
 use Rattle.poly.specs.inner.Ranges.{writes, part}
-use Rattle.poly.specs.inner.Systems.{flat, Satisfies, WellFormed, Equation, Joined, Brought}
-use Rattle.poly.specs.declared.system.Effect.{Effect}
-use Rattle.poly.specs.declared.system.Effect.the-variants.{Pivot, Redundant, Contradiction}
+use Rattle.linear.specs.inner.Systems.{flat, Satisfies, WellFormed, Equation, Joined, Brought}
+use Rattle.linear.specs.declared.system.Effect.{Effect}
+use Rattle.linear.specs.declared.system.Effect.the-variants.{Pivot, Redundant, Contradiction}
 use Rattle.poly.proofs.Entries.{zeros, getD-zeros}
 use Rattle.poly.proofs.Linear.{dot-cong}
 use Rattle.poly.proofs.Parts.{part-at, part-rest}
-use Rattle.poly.proofs.WellFormed.{blank-formed, blank-satisfied}
+use Rattle.linear.proofs.WellFormed.{blank-formed, blank-satisfied}
 use Rattle.poly.proofs.Writes.{length-writes, writes-in, writes-out, writes-cong}
 use Rattle.code.specs.Terms.{size}
 use Rattle.code.specs.inner.Grid.{weightOf, listed}

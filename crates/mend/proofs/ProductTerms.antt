@@ -17,7 +17,7 @@ use Rattle.field.proofs.Fields.{fieldOf}
 use Rattle.field.proofs.FieldLaws.{zero-lt}
 use Rattle.poly.specs.inner.Interpolation.{interleaved}
 use Rattle.poly.specs.inner.Ranges.{Below, part}
-use Rattle.poly.specs.inner.Systems.{flat, NonzeroSolved}
+use Rattle.linear.specs.inner.Systems.{flat, NonzeroSolved}
 use Rattle.poly.proofs.Interleaving.{place-lt}
 use Rattle.poly.proofs.Interpolants.{at-column}
 use Rattle.poly.proofs.Messages.{tabulate, getD-tabulate, vector-below}

@@ -13,9 +13,9 @@ use Rattle.field.proofs.Sums.{sum-zeros}
 use Rattle.field.proofs.Curves.{short-curve}
 use Rattle.poly.specs.Messages.{Vector}
 use Rattle.poly.specs.inner.Linear.{entry, dot}
-use Rattle.poly.specs.inner.Systems.{flat, Satisfies, Full}
-use Rattle.poly.proofs.Solutions.{satisfies-unique}
-use Rattle.poly.proofs.WellFormed.{triangular}
+use Rattle.linear.specs.inner.Systems.{flat, Satisfies, Full}
+use Rattle.linear.proofs.Solutions.{satisfies-unique}
+use Rattle.linear.proofs.WellFormed.{triangular}
 use Rattle.code.specs.Points.{columnsOf}
 use Rattle.code.specs.Terms.{size}
 use Rattle.code.specs.inner.Readable.{GridOf}

@@ -8,7 +8,6 @@ ghost use Rattle.mend.specs.inner.Locating.{reach, erasedAt, Mendable, L
 ghost use Rattle.mend.specs.inner.Candidates.{OnlyNear};
 use crate::locator;
 use code::encoding;
-use code::recovery;
 use code::term;
 use code::unencoding;
 use field::Curve;

@@ -6,7 +6,7 @@ ghost use lib.ListN.{length, getD};
 ghost use Rattle.field.specs.Curve.{IsShort};
 ghost use Rattle.field.proofs.Fields.{fieldOf};
 ghost use Rattle.poly.specs.inner.Linear.{entry};
-ghost use Rattle.poly.specs.inner.Systems.{flat, Satisfies, WellFormed};
+ghost use Rattle.linear.specs.inner.Systems.{flat, Satisfies, WellFormed};
 ghost use Rattle.code.specs.Terms.{size};
 ghost use Rattle.mend.specs.inner.Products.{Starts, entryFrom, gridFrom};
 ghost use Rattle.mend.specs.inner.Locating.{reach, Mendable, HoldsMore, HoldsHeavy};
@@ -15,7 +15,7 @@ use crate::product;
 use code::grid;
 use code::term;
 use field::Curve;
-use poly::system;
+use linear::system;
 
 // Where the grid of each term of order s starts, those of x^0·y^j, x^1·y^j, .. being count blocks of 64 for each j.
 fn write_starts(q: u8, s: usize, count: usize, starts: &mut [u16])

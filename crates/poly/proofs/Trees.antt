@@ -7,15 +7,14 @@ use Prim.Native.Nat.{ℕ, zero, suc, _+_, _*_, _≤_, _<_}
 use native.Mathlib.Decide.{decLt}
 use native.Mathlib.Omega.{arith}
 use mathlib.Core.Logic.{inl, inr}
-use lib.Dec.{T, eqb, eqb→eq, leb, leb→le, ltb, ltb→lt}
+use lib.Dec.{T, leb, leb→le}
 use lib.ListN.{length, getD, take, drop, List·getD-eq-default}
-use lib.Seq.{length-take-le, getD-take}
+use lib.Seq.{length-take-le, getD-take, getD-drop}
 use Rattle.field.specs.Plus.{plus}
 use Rattle.field.specs.Field.{Field}
-use Rattle.field.specs.Tests.{every}
 use Rattle.field.proofs.Plus.{plus-zero, zero-plus}
 use Rattle.field.proofs.FieldLaws.{zero-lt, times-zero}
-use Rattle.field.proofs.Search.{of-every}
+use Rattle.field.proofs.Table.{allBelow, below-entry, begins, same-entry}
 use Rattle.poly.specs.inner.Polynomials.{linear, vanishing}
 use Rattle.poly.specs.inner.Interpolation.{half, coefficientCount, Node, Levels, VanishingTree}
 use Rattle.poly.proofs.Bools.{parts, of-or}
@@ -55,8 +54,8 @@ module _ (F : Field) where
 
   -- n numbers of the list, from at on, are the first coefficients
   unfoldable pub holds : List ℕ → ℕ → List ℕ → ℕ → Bool
-  unfolding coefficients every
-  holds tree at l n = let f = coefficients l in every n (λ i. eqb (getD tree (at + i) 0) (getD f i 0))
+  unfolding coefficients
+  holds tree at l n = begins n (drop at tree) (coefficients l)
 
   unfoldable pub isNode : List ℕ → ℕ → List ℕ → Bool
   unfolding holds
@@ -77,8 +76,7 @@ module _ (F : Field) where
   held : (tree : List ℕ) (at : ℕ) (l : List ℕ) (n : ℕ) → T (holds tree at l n) → (i : ℕ) → i < n → getD tree (at + i) 0 ≡ vanishing F l i
   unfolding holds
   held tree at l n test i h =
-      eqb→eq (getD tree (at + i) 0) (getD (coefficients l) i 0) (of-every n (λ i. eqb (getD tree (at + i) 0) (getD (coefficients l) i 0)) test i h)
-      ∙ coefficients-are l i
+      sym (getD-drop at tree i 0) ∙ same-entry n (drop at tree) (coefficients l) test i h ∙ coefficients-are l i
 
   -- what the test of a node says
   node : (stride : ℕ) (tree : List ℕ) (at : ℕ) (columns : List ℕ) → T (isNode tree at columns) → Node F tree at columns
@@ -122,14 +120,11 @@ module _ (F : Field) where
   -- THE TEST: the root, the levels of the halves, and that all are symbols
   pub vanishing-tree : (n : ℕ) (columns tree : List ℕ) → length columns + 1 ≤ length tree → length tree ≤ 1024
       → T (holds tree 0 columns (length columns + 1)) → T (isTree n (2 * length columns) tree (length columns + 1) columns)
-      → T (every (length tree) (λ i. ltb (getD tree i 0) (F .size))) → VanishingTree F columns tree
+      → T (allBelow (F .size) tree) → VanishingTree F columns tree
   vanishing-tree n columns tree long short root halves small = record {
     root = record { long = omega (arith, length-take-le (length columns + 1) tree long); is = is };
     halves = levels n (2 * length columns) tree (length columns + 1) columns halves;
-    below = λ i. elim (decLt i (length tree)) [
-      | yes l ↦ ltb→lt (getD tree i 0) (F .size) (of-every (length tree) (λ i. ltb (getD tree i 0) (F .size)) small i l)
-      | no l ↦ rw (List·getD-eq-default tree 0 {n = i} (omega arith)) (zero-lt F)
-    ];
+    below = below-entry (F .size) tree (zero-lt F) small;
     short = short;
   }
     where

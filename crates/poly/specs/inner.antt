@@ -3,9 +3,6 @@ pub mod Lanes
 pub mod Polynomials
 pub mod Linear
 pub mod Rows
-pub mod Systems
-pub mod Combinations
 pub mod Interpolation
 pub mod RootInterpolation
 pub mod Indicators
-pub mod Eliminating

@@ -16,7 +16,7 @@ use Rattle.code.specs.Terms.{size}
 use Rattle.code.specs.Word.{wordOf}
 use Rattle.code.specs.Fitting.{fitting}
 use Rattle.code.specs.Recovered.{nothing, message, several, reading}
-use Rattle.poly.proofs.Elimination.{PowerOrNone}
+use Rattle.linear.proofs.Elimination.{PowerOrNone}
 use Rattle.code.proofs.Readings.{Fitting, fitting-list, length-fitting, reads-nothing, reads-message, reads-several}
 use Rattle.code.proofs.Recoveries.{readingOf}
 use Rattle.code.proofs.Facts.{Broken, facts}

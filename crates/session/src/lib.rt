@@ -182,7 +182,7 @@ impl Session {
         let word = self.received_word();
         let n = word.points;
         let places = word.places;
-        code::recovery::recover(self.q, self.m, &places[..n], message)
+        recovery::recover(self.q, self.m, &places[..n], message)
     }
 
     // A job of recovery from the stored q, m and first n places, one in conflict being missing: what asking recovers from.

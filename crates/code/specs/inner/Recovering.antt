@@ -8,7 +8,7 @@ use lib.ListN.{length, getD}
 use Rattle.field.specs.Power.{power}
 use Rattle.field.proofs.Fields.{fieldOf}
 use Rattle.poly.specs.inner.Linear.{entry, dot}
-use Rattle.poly.specs.inner.Systems.{flat, Satisfies, rank, WellFormed}
+use Rattle.linear.specs.inner.Systems.{flat, Satisfies, rank, WellFormed}
 use Rattle.code.specs.Terms.{weights, size}
 use Rattle.code.specs.Word.{monomial}
 use Rattle.code.specs.inner.Columns.{Columns}

@@ -10,7 +10,7 @@ use Rattle.field.specs.declared.outcome.Outcome.the-variants.{Done, NoMessage, 
 use Rattle.field.proofs.Fields.{fieldOf}
 use Rattle.poly.specs.Messages.{Vector}
 use Rattle.poly.specs.inner.Linear.{entry}
-use Rattle.poly.specs.inner.Systems.{flat, rank, WellFormed}
+use Rattle.linear.specs.inner.Systems.{flat, rank, WellFormed}
 use Rattle.code.specs.Terms.{size}
 use Rattle.code.specs.inner.Recovering.{FitsBelow, Collected}
 use Rattle.job.specs.declared.bringing.Progress.{Progress}

@@ -11,7 +11,7 @@ use Rattle.field.specs.Curve.{IsShort, curveOf}
 use Rattle.field.proofs.Fields.{fieldOf}
 use Rattle.poly.specs.inner.Linear.{dot}
 use Rattle.poly.specs.Messages.{Vector}
-use Rattle.poly.specs.inner.Systems.{flat, Satisfies, WellFormed}
+use Rattle.linear.specs.inner.Systems.{flat, Satisfies, WellFormed}
 use Rattle.code.specs.inner.Grid.{weightOf}
 use Rattle.code.specs.Points.{columnsOf}
 use Rattle.code.specs.inner.Rows.{rowOf}

@@ -9,7 +9,7 @@ use lib.ListN.{length, getD}
 use Rattle.field.proofs.Fields.{fieldOf}
 use Rattle.field.proofs.Curves.{sizes, short-sizes, short-not-long}
 use Rattle.poly.specs.inner.Linear.{entry}
-use Rattle.poly.specs.inner.Systems.{WellFormed, Equation, Brought}
+use Rattle.linear.specs.inner.Systems.{WellFormed, Equation, Brought}
 use Rattle.code.specs.Points.{ysOf}
 use Rattle.code.specs.Terms.{size}
 use Rattle.code.proofs.Stages.{ys-below}

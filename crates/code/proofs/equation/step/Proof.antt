@@ -6,8 +6,8 @@ use native.Mathlib.Omega.{arith}
 use borrow.Author.Needs.{needs}
 use denote.Ref.{now}
 use Rattle.field.proofs.Fields.{fieldOf}
-use Rattle.poly.specs.inner.Systems.{Brought}
-use Rattle.poly.specs.declared.system.Effect.{Effect}
+use Rattle.linear.specs.inner.Systems.{Brought}
+use Rattle.linear.specs.declared.system.Effect.{Effect}
 use Rattle.code.specs.Terms.{size}
 use Rattle.code.specs.inner.Rows.{equationOf}
 use Rattle.code.proofs.Collecting.{taken-gap, taken-pivot, taken-redundant, clash}

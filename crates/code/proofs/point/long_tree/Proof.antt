@@ -3,7 +3,6 @@
 use native.Mathlib.Omega.{arith}
 use Rattle.field.specs.Plus.{plus}
 use Rattle.field.specs.Product.{times}
-use Rattle.field.specs.Tests.{every}
 use Rattle.field.proofs.Fields.{fieldOf}
 use Rattle.poly.proofs.Trees.{timesLinear, coefficients, holds, isNode, isTree, vanishing-tree}
 use Rattle.code.specs.Passing.{passing, upTo}
@@ -11,7 +10,7 @@ use Rattle.code.proofs.point.long_tree.Statement.{statement}
 use Rattle.code.proofs.point.long_tree.Tie as tie
 
 returns : tie.Need-returns
-unfolding times plus passing every timesLinear coefficients holds isNode isTree
+unfolding times plus passing timesLinear coefficients holds isNode isTree
 returns c = vanishing-tree (fieldOf 8) 6 (upTo 64) _ (omega arith) (omega arith) tt tt tt
 
 pub long-tree-spec : {M : Type 1} → statement M

@@ -2,7 +2,6 @@
 -- Assumes nothing.
 use mathlib.Core.Path.{refl}
 use native.Mathlib.Omega.{arith}
-use Rattle.field.specs.Tests.{every}
 use Rattle.field.proofs.Curves.{long-curve}
 use Rattle.code.proofs.Traces.{traces-8, norms-8, fastY}
 use Rattle.code.proofs.YsTables.{fast-is}
@@ -11,7 +10,7 @@ use Rattle.code.proofs.point.long_ys.Statement.{statement}
 use Rattle.code.proofs.point.long_ys.Tie as tie
 
 returns : tie.Need-returns
-unfolding traces-8 norms-8 every
+unfolding traces-8 norms-8
 returns c = points-table 8 long-curve 512 fastY fast-is (omega arith) _ refl tt tt
 
 pub long-ys-spec : {M : Type 1} → statement M

@@ -6,7 +6,6 @@ use native.Mathlib.Omega.{arith}
 use Rattle.field.specs.Plus.{plus}
 use Rattle.field.specs.Power.{power}
 use Rattle.field.specs.Product.{times}
-use Rattle.field.specs.Tests.{every}
 use Rattle.code.specs.Passing.{passing}
 use Rattle.code.specs.Points.{ysOf}
 use Rattle.code.proofs.YsTables.{yAt, ys-table}
@@ -14,7 +13,7 @@ use Rattle.code.proofs.point.ys_4.Statement.{statement}
 use Rattle.code.proofs.point.ys_4.Tie as tie
 
 returns : tie.Need-returns
-unfolding times power plus ysOf passing every
+unfolding times power plus ysOf passing
 returns c = ys-table 4 (inr (inl refl)) 64 (yAt 4) (λ p l. refl) (omega arith) _ refl tt tt
 
 pub ys-4-spec : {M : Type 1} → statement M

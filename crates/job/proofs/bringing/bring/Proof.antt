@@ -9,8 +9,8 @@ use denote.Ref.{now}
 use Rattle.field.proofs.Curves.{short-curve}
 use Rattle.field.proofs.Fields.{fieldOf}
 use Rattle.poly.specs.inner.Linear.{entry}
-use Rattle.poly.specs.inner.Systems.{flat, rank}
-use Rattle.poly.proofs.Solutions.{rank-le, rank-full, solves-vector}
+use Rattle.linear.specs.inner.Systems.{flat, rank}
+use Rattle.linear.proofs.Solutions.{rank-le, rank-full, solves-vector}
 use Rattle.code.specs.Points.{columnsOf}
 use Rattle.code.specs.Terms.{size}
 use Rattle.code.proofs.FullColumns.{full-places, size-short}

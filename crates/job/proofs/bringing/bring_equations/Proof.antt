@@ -9,8 +9,8 @@ use denote.Ref.{now}
 use lib.ListN.{length, getD}
 use Rattle.field.proofs.Curves.{short-sizes}
 use Rattle.field.proofs.Fields.{fieldOf}
-use Rattle.poly.proofs.Solutions.{rank-le}
-use Rattle.poly.specs.inner.Systems.{flat}
+use Rattle.linear.proofs.Solutions.{rank-le}
+use Rattle.linear.specs.inner.Systems.{flat}
 use Rattle.code.specs.Terms.{size}
 use Rattle.code.specs.inner.Recovering.{Advanced}
 use Rattle.code.proofs.GridEntries.{length-entries}

@@ -9,7 +9,7 @@ use denote.Ref.{now}
 use lib.ListN.{take, replicate}
 use lib.Seq.{length-take-le}
 use Rattle.field.specs.declared.curve.Curve.{Curve}
-use Rattle.poly.specs.inner.Systems.{flat, rank}
+use Rattle.linear.specs.inner.Systems.{flat, rank}
 use Rattle.code.specs.Points.{columnsOf}
 use Rattle.code.specs.Terms.{size}
 use Rattle.code.specs.inner.Recovering.{BrokenOver}

@@ -7,8 +7,8 @@ use borrow.Author.Needs.{needs}
 use denote.Ref.{now}
 use Rattle.field.proofs.Curves.{short-curve, short-not-long}
 use Rattle.field.proofs.Fields.{fieldOf}
-use Rattle.poly.specs.inner.Systems.{flat, WellFormed, Solution, Solves}
-use Rattle.poly.proofs.Substitution.{solves-full}
+use Rattle.linear.specs.inner.Systems.{flat, WellFormed, Solution, Solves}
+use Rattle.linear.proofs.Substitution.{solves-full}
 use Rattle.code.specs.Terms.{size}
 use Rattle.code.proofs.Collecting.{solution-below}
 use Rattle.code.proofs.FullColumns.{full-columns, full-places, length-upTo}

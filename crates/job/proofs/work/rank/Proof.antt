@@ -5,7 +5,7 @@ use mathlib.Core.Logic.{⊎-elim}
 use Prim.Native.Nat.{ℕ, _-_, _≤_}
 use native.Mathlib.Omega.{arith}
 use denote.Ref.{now}
-use Rattle.poly.specs.inner.Systems.{flat, rank}
+use Rattle.linear.specs.inner.Systems.{flat, rank}
 use Rattle.job.proofs.Formed.{rank-none, rank-there, rank-absent}
 use Rattle.job.proofs.work.rank.Statement.{statement}
 use Rattle.job.proofs.work.rank.Tie as tie

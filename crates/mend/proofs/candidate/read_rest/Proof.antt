@@ -18,7 +18,7 @@ use Rattle.code.specs.Recovered.{answerOf, reading}
 use Rattle.code.specs.Terms.{size}
 use Rattle.code.specs.Word.{wordOf}
 use Rattle.code.specs.inner.Recovering.{BrokenOver}
-use Rattle.code.proofs.GapAnswers.{broken-0}
+use Rattle.recovery.proofs.GapAnswers.{broken-0}
 use Rattle.code.proofs.Recoveries.{readingOf}
 use Rattle.mend.specs.inner.Locating.{reach, Erased}
 use Rattle.poly.proofs.Fronts.{front-fits, front-again, again-long}

@@ -8,7 +8,7 @@ use lib.ListN.{length, take, length-replicate}
 use lib.Seq.{length-take-le}
 use Rattle.field.proofs.Curves.{short-curve, short-sizes, short-not-long}
 use Rattle.field.proofs.Fields.{fieldOf}
-use Rattle.poly.specs.inner.Systems.{WellFormed}
+use Rattle.linear.specs.inner.Systems.{WellFormed}
 use Rattle.poly.proofs.Entries.{getD-zeros}
 use Rattle.code.specs.Terms.{size}
 use Rattle.mend.specs.inner.Locating.{reach}

@@ -1,0 +1,15 @@
+pub mod Bringing
+pub mod Insertion
+pub mod Placement
+pub mod Reduction
+pub mod RowOperations
+pub mod Solutions
+pub mod Substitution
+pub mod FreeUnknowns
+pub mod Triangular
+pub mod WellFormed
+pub mod Elimination
+pub mod Combinations
+pub mod Pivots
+pub mod PivotTables
+pub mod Eliminating

@@ -1,0 +1,64 @@
+-- `linear::vectors::pivot` meets its contract. The invariant of its loop: from p on v is 0 at every place that counts.
+-- Assumes nothing.
+use Prim.Native.Nat.{_-_}
+use native.Mathlib.Omega.{arith}
+use Rattle.linear.proofs.Eliminating.{Searching, marked-not, searching-none, searching-turn, searching-end, searching-found}
+use Rattle.linear.proofs.vectors.pivot.Statement.{statement}
+use Rattle.linear.proofs.vectors.pivot.Tie as tie
+
+abbrev Inv-loop : tie.InvT-loop
+Inv-loop high v p₀ p = Searching high v p
+
+abbrev μ-loop : tie.MeasureT-loop
+μ-loop high v p₀ p = p
+
+loop-holds : tie.Need-loop-holds Inv-loop μ-loop
+loop-holds c = searching-none _ _
+
+sub-i : tie.Need-sub-i Inv-loop μ-loop
+sub-i c = omega arith
+
+shared-slice-read-if1 : tie.Need-shared-slice-read-if1 Inv-loop μ-loop
+shared-slice-read-if1 c = omega (arith, c .before .before .loop .inv .within)
+
+shared-slice-read-if2 : tie.Need-shared-slice-read-if2 Inv-loop μ-loop
+shared-slice-read-if2 c = omega (arith, c .before .before .before .before .loop .inv .within, c .before .before .before .before .before .pre)
+
+returns : tie.Need-returns Inv-loop μ-loop
+returns c =
+    searching-found _ _ _ (c .before .before .before .before .before .loop .inv) (omega arith) (c .before .before .if1 .taken) (c .if2 .taken)
+
+loop-less : tie.Need-loop-less Inv-loop μ-loop
+loop-less c = omega arith
+
+loop-again : tie.Need-loop-again Inv-loop μ-loop
+loop-again c = searching-turn _ _ _ (c .before .before .before .before .before .loop .inv) (omega arith) (λ t. c .if2 .left)
+
+loop-less-2 : tie.Need-loop-less-2 Inv-loop μ-loop
+loop-less-2 c = omega arith
+
+loop-again-2 : tie.Need-loop-again-2 Inv-loop μ-loop
+loop-again-2 c =
+    let l = c .before .before .before .loop in
+    searching-turn _ _ _ (l .inv) (omega arith)
+    (λ t. absurd (marked-not (c .before .before .before .before .args .high .now) (l .p - 1) (c .if1 .left) t))
+
+returns-2 : tie.Need-returns-2 Inv-loop μ-loop
+returns-2 c = searching-end _ _ _ (c .before .loop .inv) (omega arith)
+
+pub pivot-spec : {M : Type 1} → statement M
+pivot-spec =
+    tie.close
+    (tie.spec
+    Inv-loop
+    μ-loop
+    loop-holds
+    sub-i
+    shared-slice-read-if1
+    shared-slice-read-if2
+    returns
+    loop-less
+    loop-again
+    loop-less-2
+    loop-again-2
+    returns-2)

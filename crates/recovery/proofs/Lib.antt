@@ -1,0 +1,9 @@
+pub mod PointGrids
+pub mod GapGrids
+pub mod GapReadings
+pub mod GapRows
+pub mod IndicatorBlocks
+pub mod IndicatorRows
+pub mod KnownGrids
+pub mod GapAnswers
+pub mod HeavyMarks

@@ -1,0 +1,2 @@
+pub mod Indicators
+pub mod Gaps

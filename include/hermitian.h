@@ -42,8 +42,8 @@
  * Threads. There is no state outside a call: no globals, no heap, no setup. Any
  * number of threads may call at once, each with output buffers of its own; they
  * may share an input. As built now, a call on a short block takes less than
- * 12 KiB of stack (measured and not proved: most is 12168 bytes, to mend, and of the
- * other calls 8040, to recover), one on a long block less than 13 KiB; from the
+ * 10 KiB of stack (measured and not proved: most is 9488 bytes, to mend, and of the
+ * other calls 5568, to recover), one on a long block less than 13 KiB; from the
  * platform it needs memcpy and memset.
  *
  * Linking. `rt staticlib hermitian` writes target/staticlib/libhermitian.a, for

@@ -40,7 +40,7 @@ fn interpolate_columns(q: u8, all: &[u8], columns: &[u8], word: &[u8], work: &mu
     }
 }
 
-// The first stage.
+// The first stage, with the curve's table of y. With two callers the compiler keeps it a call, and the table out of their frames.
 fn interpolate_in_y(q: u8, columns: &[u8], word: &[u8], work: &mut [u8])
     requires { ⌜ WordOver q (now columns) (now word) × (16 * length (now columns) ≤ length (now work)) × ((i : ℕ) → getD (now work) i 0 ≡ 0) ⌝ }
     ensures { λ _. ⌜ InterpolatedInY q (now (columns .entry)) (now (word .entry)) (now (work .exit)) ⌝ }
@@ -54,7 +54,7 @@ fn interpolate_in_y(q: u8, columns: &[u8], word: &[u8], work: &mut [u8])
     }
 }
 
-// The grid of a short block's word, in the front of zeros.
+// The grid of a short block's word, in the front of zeros. The tree is assigned, since one picked by an expression has room twice.
 pub fn interpolate_short(q: u8, word: &[u8]) -> [u8; 64]
     requires { ⌜ WordOver q (columnsOf q) (now word) × IsShort q ⌝ }
     ensures { λ r. ⌜ GridInFront q (columnsOf q) (now (word .entry)) r × (length r ≡ 64) ⌝ }

@@ -3,6 +3,11 @@
 ghost use mathlib.Core.Path.{_≡_};
 ghost use Prim.Native.Nat.{_≤_};
 ghost use lib.ListN.{length};
+use case_lines::number;
+use case_lines::print_answer;
+use case_lines::print_byte;
+use case_lines::print_number;
+use case_lines::print_values;
 use field::Outcome;
 use job::Job;
 use job::Opening;
@@ -18,47 +23,9 @@ fn room(length: usize) -> usize
     if length < 72 { length } else { 72 }
 }
 
-fn print_number(n: u16) {
-    io::print_decimal(STDOUT_FILENO, n as u64);
-}
-
-fn print_byte(n: u8) {
-    print_number(n as u16);
-}
-
-// The number of two bytes.
-fn number(low: u8, high: u8) -> u16 {
-    (low as u16) + 256 * (high as u16)
-}
-
 // The order of a record.
 fn order(record: [u8; 160]) -> u16 {
     number(record[2], record[152])
-}
-
-// The op and the two numbers of the answer, each with a space after it.
-fn print_answer(op: u8, outcome: Outcome) {
-    io::write_all(STDOUT_FILENO, &[op, b' ']);
-    print_byte(field::outcome::number(outcome));
-    io::write_all(STDOUT_FILENO, &[b' ']);
-    print_number(field::outcome::second(outcome));
-    io::write_all(STDOUT_FILENO, &[b' ']);
-}
-
-// Two hexadecimal digits for each of the first 72 values, and the byte after them.
-fn print_values(values: &[u8], after: u8) {
-    let mut text = [after; 145];
-    let mut at = 0;
-    let mut j = 0;
-    let n = room(values.len());
-    while j < n {
-        text[at] = lines::text::hex_digit(values[j] / 16);
-        text[at + 1] = lines::text::hex_digit(values[j]);
-        at += 2;
-        j += 1;
-    }
-    let end = at + 1;
-    io::write_all(STDOUT_FILENO, &text[..end]);
 }
 
 fn field_case(op: u8, q: u8, a: u8, b: u8) {

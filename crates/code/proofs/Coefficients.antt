@@ -19,10 +19,10 @@ use Rattle.poly.specs.Messages.{Vector, snoc}
 use Rattle.poly.proofs.Bools.{T-true}
 use Rattle.poly.proofs.Messages.{length-snoc, getD-snoc, getD-snoc-last, tabulate, getD-tabulate, vector-tabulate}
 use Rattle.poly.proofs.Keep.{keep, keep-cong}
-use Rattle.code.specs.Passing.{passing}
+use Rattle.points.specs.Passing.{passing}
+use Rattle.points.proofs.Passing.{place, place-lt, passing-at, at-place}
 use Rattle.code.specs.Terms.{isTerm, xPower, yPower, weights, size}
 use Rattle.code.specs.Word.{monomial, valueAt}
-use Rattle.code.proofs.Passing.{place, place-lt, passing-at, at-place}
 
 -- a sum over a list, each element with its place
 sum-snoc : (f : ℕ → ℕ → ℕ) (l : List ℕ) (x : ℕ)

@@ -21,12 +21,12 @@ use Rattle.poly.proofs.Lists.{mem-getD, nodup-getD}
 use Rattle.poly.proofs.Values.{value-cong}
 use Rattle.poly.proofs.Parts.{part-at, length-part, below-part, put-is, put-low, put-in, put-high, below-back}
 use Rattle.poly.proofs.Blocks.{block-fits}
-use Rattle.code.specs.Points.{ysOf}
-use Rattle.code.specs.inner.Columns.{PaddedYs, columnY}
+use Rattle.points.specs.Points.{ysOf}
+use Rattle.points.specs.inner.Columns.{PaddedYs, columnY}
+use Rattle.points.proofs.ColumnPoints.{length-ys}
+use Rattle.points.proofs.Points.{of-mem-ys, nodup-ys}
+use Rattle.points.proofs.YsTables.{taken-below, taken-at}
 use Rattle.code.specs.inner.Readable.{WordOver, InterpolatedInY}
-use Rattle.code.proofs.Columns.{length-ys}
-use Rattle.code.proofs.Points.{of-mem-ys, nodup-ys}
-use Rattle.code.proofs.YsTables.{taken-below, taken-at}
 
 -- the first t columns are interpolated
 pub record InterpolatedSoFar (q : ℕ) (columns word work : List ℕ) (t : ℕ) : Type 0 where

@@ -16,13 +16,14 @@ use Rattle.poly.specs.Lists.{Nodup, count}
 use Rattle.poly.specs.Messages.{Vector, all}
 use Rattle.poly.specs.inner.Linear.{entry, dot}
 use Rattle.linear.proofs.Elimination.{PowerOrNone, Meets, eliminate, power-or-none}
-use Rattle.code.specs.Points.{columnsOf}
+use Rattle.points.specs.Points.{columnsOf}
+use Rattle.points.proofs.Passing.{of-mem-passing}
+use Rattle.points.proofs.ColumnPoints.{full-columns, full-places}
 use Rattle.code.specs.Terms.{size}
 use Rattle.code.specs.Word.{wordOf}
 use Rattle.code.specs.Fitting.{fits}
 use Rattle.code.specs.inner.Rows.{rowOf}
-use Rattle.code.proofs.Passing.{of-mem-passing}
-use Rattle.code.proofs.FullColumns.{full-columns, full-places, full-points}
+use Rattle.code.proofs.FullColumns.{full-points}
 use Rattle.code.proofs.Zeros.{agree}
 use Rattle.code.proofs.Rows.{row-lt, word-dot}
 use Rattle.code.proofs.Fitting.{of-fits, to-fits}

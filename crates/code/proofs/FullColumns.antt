@@ -3,8 +3,8 @@
 use mathlib.Core.Bool.{true, false}
 use mathlib.Core.List.{List, []}
 use mathlib.Core.Logic.{inl, inr, ⊎-elim}
-use mathlib.Core.Path.{_≡_, refl, sym, ap, _∙_}
-use Prim.Native.Nat.{ℕ, zero, suc, _*_, _<_}
+use mathlib.Core.Path.{_≡_, sym, _∙_}
+use Prim.Native.Nat.{ℕ, suc, _*_, _<_}
 use native.Mathlib.Decide.{decLt}
 use native.Mathlib.Omega.{arith}
 use lib.ListN.{length, getD, List·getD-eq-default}
@@ -13,33 +13,17 @@ use Rattle.field.proofs.Fields.{fieldOf}
 use Rattle.field.proofs.FieldLaws.{zero-lt}
 use Rattle.field.proofs.Curves.{each-short, sizes}
 use Rattle.poly.specs.inner.Ranges.{Below}
-use Rattle.code.specs.Passing.{passing, upTo}
-use Rattle.code.specs.Points.{pointsOn, columnsOf}
+use Rattle.points.specs.Passing.{passing}
+use Rattle.points.specs.Points.{pointsOn, columnsOf}
+use Rattle.points.proofs.ColumnPoints.{length-upTo, full-columns, full-places}
+use Rattle.points.proofs.Passing.{place-le}
 use Rattle.code.specs.Terms.{isTerm, size}
-use Rattle.code.specs.inner.Columns.{Columns}
 use Rattle.code.specs.inner.Encodable.{Encodable}
 use Rattle.code.specs.inner.Recovering.{BrokenOver}
 use Rattle.code.specs.inner.Readable.{Readable}
-use Rattle.code.proofs.Passing.{place-true, place-le, at-place, nodup-passing}
-use Rattle.code.proofs.Columns.{word-length}
+use Rattle.code.proofs.WordColumns.{word-length}
 use Rattle.code.proofs.Word.{length-word}
 use Rattle.code.proofs.Checks.{Accepted, symbol-of-good, value-of-good}
-
-pub length-upTo : (n : ℕ) → length (upTo n) ≡ n
-unfolding passing
-length-upTo zero = refl
-length-upTo (suc n) = place-true (λ i. true) n refl ∙ ap suc (length-upTo n)
-
-pub full-columns : (q : ℕ) → IsCurve q → Columns q (columnsOf q)
-full-columns q curve =
-    record {
-      curve = curve;
-      small = λ t l. at-place (λ i. true) (q * q) t l .0;
-      distinct = nodup-passing (λ i. true) (q * q);
-    }
-
-pub full-places : (q : ℕ) → IsCurve q → q * length (columnsOf q) ≡ q * q * q
-full-places q curve = ap (λ (x : ℕ). q * x) (length-upTo (q * q)) ∙ sizes q curve .grid
 
 pub full-points : (q : ℕ) → IsCurve q → length (pointsOn q (columnsOf q)) ≡ q * q * q
 full-points q curve =

@@ -17,9 +17,9 @@ use Rattle.poly.proofs.Bools.{true-or-false}
 use Rattle.poly.proofs.Lists.{getD-map}
 use Rattle.poly.proofs.Entries.{getD-zeros}
 use Rattle.poly.proofs.Writes.{length-writes, writes-in}
+use Rattle.points.proofs.Passing.{passing-at, at-place, place-lt, place-true, place-false}
 use Rattle.code.specs.Terms.{isTerm, weights, size}
 use Rattle.code.specs.inner.Grid.{weightOf, entryOf, rank, scatterBelow, scatter, gather, entriesOf, listed, WeightOfTerm}
-use Rattle.code.proofs.Passing.{passing-at, at-place, place-lt, place-true, place-false}
 use Rattle.code.proofs.Weights.{rank-zero, weight-of-entry, entry-of-weight, entry-term, weight-number}
 
 -- a grid with coefficient i at entry i of a list, for each i below n

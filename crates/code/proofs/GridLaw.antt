@@ -16,12 +16,13 @@ use Rattle.field.proofs.FieldLaws.{times-zero}
 use Rattle.field.proofs.Sums.{sum-suc, sum-cong, sum-zeros, sum-blocks, sum-set, sum-swap, sum-scale}
 use Rattle.poly.specs.inner.Polynomials.{value}
 use Rattle.poly.proofs.Bools.{true-or-false}
-use Rattle.code.specs.Passing.{passing}
+use Rattle.points.specs.Passing.{passing}
+use Rattle.points.proofs.Passing.{passing-true, passing-false, place-true}
+use Rattle.points.proofs.Places.{quotient, remainder}
 use Rattle.code.specs.Terms.{isTerm}
 use Rattle.code.specs.Word.{monomial, valueAt}
 use Rattle.code.specs.inner.Grid.{entryOf, rank, scatterBelow, scatter}
-use Rattle.code.proofs.Passing.{passing-true, passing-false, place-true}
-use Rattle.code.proofs.Weights.{quotient, remainder, entry-x, entry-y, weight-of-entry}
+use Rattle.code.proofs.Weights.{entry-x, entry-y, weight-of-entry}
 use Rattle.code.proofs.GridEntries.{scatter-term, scatter-none, length-scatter, scatter-above}
 
 module _ (q : ℕ) (pos : 0 < q) (x y : ℕ) where

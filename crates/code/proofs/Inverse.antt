@@ -14,7 +14,8 @@ use Rattle.field.specs.declared.outcome.Outcome.the-variants.{Done, NoMessage}
 use Rattle.field.proofs.Curves.{sizes, curve-true, curve-of-true}
 use Rattle.poly.specs.Messages.{Vector}
 use Rattle.poly.specs.Sets.{ListOf}
-use Rattle.code.specs.Points.{columnsOf}
+use Rattle.points.specs.Points.{columnsOf}
+use Rattle.points.proofs.ColumnPoints.{full-columns, full-places}
 use Rattle.code.specs.Terms.{size}
 use Rattle.code.specs.Word.{wordOf}
 use Rattle.code.specs.Fitting.{fitting}
@@ -25,9 +26,9 @@ use Rattle.code.specs.Unencoded.{unencodeChecks, theMessage, unencoded}
 use Rattle.code.specs.inner.Readable.{readOver}
 use Rattle.code.proofs.Checks.{Accepted, good-symbol, symbol-of-good, order-passed, order-rest, slices-accepted, slices-done}
 use Rattle.code.proofs.Answers.{not-refused, past-checks}
-use Rattle.code.proofs.Columns.{word-length}
+use Rattle.code.proofs.WordColumns.{word-length}
 use Rattle.code.proofs.Word.{value-lt, pointAt, length-word, word-at-point}
-use Rattle.code.proofs.FullColumns.{full-columns, full-places, readable}
+use Rattle.code.proofs.FullColumns.{readable}
 use Rattle.code.proofs.Readings.{Fitting, fitting-list}
 use Rattle.code.proofs.WordGrids.{message-only, the-one}
 

@@ -22,8 +22,9 @@ use Rattle.poly.specs.Lists.{filter, below}
 use Rattle.poly.specs.Messages.{all}
 use Rattle.poly.specs.inner.Ranges.{Below}
 use Rattle.poly.specs.inner.Polynomials.{value}
-use Rattle.code.specs.Passing.{passing}
-use Rattle.code.specs.Points.{ysOf, pointsOn, columnsOf}
+use Rattle.points.specs.Passing.{passing}
+use Rattle.points.specs.Points.{ysOf, pointsOn, columnsOf}
+use Rattle.points.proofs.ColumnPoints.{full-columns}
 use Rattle.code.specs.Terms.{size}
 use Rattle.code.specs.Word.{valueAt, wordOf}
 use Rattle.code.specs.inner.Grid.{orderAtMost}
@@ -35,7 +36,6 @@ use Rattle.code.specs.Encoded.{encoded}
 use Rattle.code.specs.Unencoded.{unencodeChecks, theMessage, unencoded}
 use Rattle.code.specs.Recovered.{read, reading, answerOf, recoverChecks, recovered}
 use Rattle.code.specs.inner.Readable.{WordOver, gridValue, GridOf}
-use Rattle.code.proofs.FullColumns.{full-columns}
 use Rattle.code.proofs.Readings.{Fitting, fitting-list, none-listed}
 use Rattle.code.proofs.WordGrids.{only-within}
 

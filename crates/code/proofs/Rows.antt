@@ -9,11 +9,11 @@ use lib.ListN.{length, getD}
 use Rattle.field.proofs.Fields.{fieldOf}
 use Rattle.field.proofs.Curves.{sizes}
 use Rattle.poly.specs.inner.Linear.{entry, dot}
+use Rattle.points.specs.inner.Columns.{Columns}
 use Rattle.code.specs.Terms.{size}
 use Rattle.code.specs.Word.{valueAt, wordOf}
-use Rattle.code.specs.inner.Columns.{Columns}
 use Rattle.code.specs.inner.Rows.{rowOf}
-use Rattle.code.proofs.Columns.{word-at}
+use Rattle.code.proofs.WordColumns.{word-at}
 
 pub row-lt : (q : ℕ) (columns : List ℕ) (m p n : ℕ) → rowOf q columns m p n < fieldOf q .size
 unfolding rowOf

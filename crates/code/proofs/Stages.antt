@@ -26,16 +26,16 @@ use Rattle.poly.proofs.Entries.{zeros, padded, below-set, below-zeros}
 use Rattle.poly.proofs.Parts.{part-at, length-part, below-part, below-back}
 use Rattle.poly.proofs.Blocks.{blocks-none, blocks-more, blocks-group, blocks-ext}
 use mathlib.Core.Logic.{inl, inr}
-use Rattle.code.specs.Points.{ysOf, columnsOf}
+use Rattle.points.specs.Points.{ysOf, columnsOf}
+use Rattle.points.specs.inner.Columns.{Columns, columnY}
+use Rattle.points.proofs.ColumnPoints.{length-ys, y-symbol, length-upTo, full-columns}
 use Rattle.code.specs.Terms.{isTerm}
 use Rattle.code.specs.Word.{valueAt, wordOf}
 use Rattle.code.specs.inner.Grid.{entryOf, rank, scatterBelow, scatter}
-use Rattle.code.specs.inner.Columns.{Columns, columnY}
 use Rattle.code.specs.inner.Encodable.{Encodable, Staged, Rowed, rowValue, inY, columnValue, gridColumn}
 use Rattle.code.proofs.GridEntries.{scatter-zero, scatter-term, scatter-none}
 use Rattle.code.proofs.GridLaw.{two-stages}
-use Rattle.code.proofs.Columns.{length-ys, y-symbol, word-at, word-length}
-use Rattle.code.proofs.FullColumns.{length-upTo, full-columns}
+use Rattle.code.proofs.WordColumns.{word-at, word-length}
 
 pub columns-below : (q : ℕ) (columns : List ℕ) → Columns q columns → Below (fieldOf q .size) columns
 columns-below q columns h t = elim (decLt t (length columns)) [

@@ -4,19 +4,20 @@ use mathlib.Core.Bool.{true, false}
 use mathlib.Core.Path.{_≡_, refl, sym, ap, ap₂, _∙_}
 use Prim.Native.Nat.{ℕ, zero, suc, _+_, _-_, _*_, _/_, _%_, _≤_, _<_}
 use native.Mathlib.Decide.{le-ind, decLt}
-use native.Mathlib.Nat.{div-add-mod, mod-lt, mul-sub, mul-add, suc-mul, mul-le-mul-left, mul-add-div, mul-add-mod-self-left, mod-eq-of-lt}
-use native.Mathlib.Nat.{div-eq-of-lt, add-zero, le-div-iff-mul-le, mul-comm, mul-suc, mul-zero, add-suc, add-mul, mul-le-mul}
+use native.Mathlib.Nat.{div-add-mod, mod-lt, mul-sub, mul-add, suc-mul, mul-le-mul-left}
+use native.Mathlib.Nat.{add-zero, le-div-iff-mul-le, mul-comm, mul-suc, mul-zero, add-suc, add-mul, mul-le-mul}
 use native.Mathlib.Numerals.{add-one}
 use native.Mathlib.Omega.{arith}
 use borrow.Author.Tests.{le-leb, lt-leb, leb-true}
 use lib.ListN.{getD}
 use Rattle.field.specs.Curve.{IsCurve, curveOf}
 use Rattle.field.proofs.Curves.{sizes}
-use Rattle.code.specs.Passing.{passing}
+use Rattle.poly.specs.Lists.{Nodup}
+use Rattle.points.specs.Passing.{passing}
+use Rattle.points.proofs.Places.{quotient, remainder}
+use Rattle.points.proofs.Passing.{passing-at, at-place, place-lt, place-true, place-false, place-le, place-bound, nodup-passing}
 use Rattle.code.specs.Terms.{isTerm, xPower, yPower, weights, size}
 use Rattle.code.specs.inner.Grid.{weightOf, entryOf, rank, WeightOfTerm}
-use Rattle.poly.specs.Lists.{Nodup}
-use Rattle.code.proofs.Passing.{passing-at, at-place, place-lt, place-true, place-false, place-le, place-bound, nodup-passing}
 
 pub curve-pos : (q : ℕ) → IsCurve q → 0 < q
 curve-pos q curve = omega (arith, sizes q curve .low)
@@ -26,13 +27,6 @@ unfolding passing
 rank-zero q = refl
 
 module _ (q : ℕ) (pos : 0 < q) where
-  -- the quotient and the remainder of q a + b
-  pub quotient : (a b : ℕ) → b < q → (q * a + b) / q ≡ a
-  quotient a b l = rw (mul-add-div pos a b, div-eq-of-lt l) (add-zero a)
-
-  pub remainder : (a b : ℕ) → b < q → (q * a + b) % q ≡ b
-  remainder a b l = mul-add-mod-self-left q a b ∙ mod-eq-of-lt l
-
   pub term-le : (w : ℕ) → isTerm q w ≡ true → w % q ≤ w / q
   term-le w t = leb-true (w % q) (w / q) t
 
@@ -50,10 +44,10 @@ module _ (q : ℕ) (pos : 0 < q) where
   regroup i j = omega (arith, mul-add q i j, suc-mul q j)
 
   pub y-of-weight : (i j : ℕ) → j < q → yPower q (q * i + suc q * j) ≡ j
-  y-of-weight i j l = rw (regroup i j) (remainder (i + j) j l)
+  y-of-weight i j l = rw (regroup i j) (remainder q pos (i + j) j l)
 
   quotient-of-weight : (i j : ℕ) → j < q → (q * i + suc q * j) / q ≡ i + j
-  quotient-of-weight i j l = rw (regroup i j) (quotient (i + j) j l)
+  quotient-of-weight i j l = rw (regroup i j) (quotient q pos (i + j) j l)
 
   pub x-of-weight : (i j : ℕ) → j < q → xPower q (q * i + suc q * j) ≡ i
   x-of-weight i j l = omega (arith, quotient-of-weight i j l, y-of-weight i j l)
@@ -102,10 +96,10 @@ module _ (q : ℕ) (pos : 0 < q) where
 
   -- row a, of the numbers from q a to q a + q - 1, begins with a + 1 weights while a is below q, and has no others
   row-term : (a b : ℕ) → b ≤ a → b < q → isTerm q (q * a + b) ≡ true
-  row-term a b l k = rw (remainder a b k, quotient a b k) (le-leb b a l)
+  row-term a b l k = rw (remainder q pos a b k, quotient q pos a b k) (le-leb b a l)
 
   row-gap : (a b : ℕ) → a < b → b < q → isTerm q (q * a + b) ≡ false
-  row-gap a b l k = rw (remainder a b k, quotient a b k) (lt-leb b a l)
+  row-gap a b l k = rw (remainder q pos a b k, quotient q pos a b k) (lt-leb b a l)
 
   row-terms : (a b : ℕ) → b ≤ suc a → suc a ≤ q → rank q (q * a + b) ≡ rank q (q * a) + b
   row-terms a zero l k = ap (rank q) (add-zero (q * a)) ∙ sym (add-zero (rank q (q * a)))
@@ -193,10 +187,10 @@ module _ (q : ℕ) (pos : 0 < q) where
       omega (arith, mul-sub q (w / q) (w % q), div-add-mod w q, mul-le-mul-left q (term-le w t))
 
   pub entry-x : (w : ℕ) → isTerm q w ≡ true → entryOf q w / q ≡ xPower q w
-  entry-x w t = rw (entry-digits w t) (quotient (xPower q w) (yPower q w) (y-lt w))
+  entry-x w t = rw (entry-digits w t) (quotient q pos (xPower q w) (yPower q w) (y-lt w))
 
   pub entry-y : (w : ℕ) → isTerm q w ≡ true → entryOf q w % q ≡ yPower q w
-  entry-y w t = rw (entry-digits w t) (remainder (xPower q w) (yPower q w) (y-lt w))
+  entry-y w t = rw (entry-digits w t) (remainder q pos (xPower q w) (yPower q w) (y-lt w))
 
   pub weight-of-entry : (w : ℕ) → isTerm q w ≡ true → weightOf q (entryOf q w) ≡ w
   weight-of-entry w t =
@@ -206,7 +200,7 @@ module _ (q : ℕ) (pos : 0 < q) where
   weight-digits e = omega (arith, mul-add q (e / q) (e % q), div-add-mod e q)
 
   weight-y : (e : ℕ) → weightOf q e % q ≡ e % q
-  weight-y e = rw (weight-digits e) (remainder (e / q + e % q) (e % q) (mod-lt e pos))
+  weight-y e = rw (weight-digits e) (remainder q pos (e / q + e % q) (e % q) (mod-lt e pos))
 
   pub entry-of-weight : (e : ℕ) → entryOf q (weightOf q e) ≡ e
   entry-of-weight e = rw (weight-y e) (omega arith)
@@ -214,7 +208,7 @@ module _ (q : ℕ) (pos : 0 < q) where
   pub entry-term : (e : ℕ) → isTerm q (weightOf q e) ≡ true
   entry-term e =
       le-leb (weightOf q e % q) (weightOf q e / q)
-      (rw (weight-digits e, remainder (e / q + e % q) (e % q) (mod-lt e pos), quotient (e / q + e % q) (e % q) (mod-lt e pos)) (omega arith))
+      (rw (weight-digits e, remainder q pos (e / q + e % q) (e % q) (mod-lt e pos), quotient q pos (e / q + e % q) (e % q) (mod-lt e pos)) (omega arith))
 
 pub size-le : (q m : ℕ) → size q m ≤ suc m
 size-le q m = place-bound (isTerm q) (suc m)

@@ -8,7 +8,7 @@ use Rattle.field.specs.Plus.{plus}
 use Rattle.field.proofs.Sums.{sum-cong, sum-plus, sum-lt}
 use Rattle.field.proofs.Fields.{fieldOf}
 use Rattle.poly.proofs.Lists.{getD-map}
-use Rattle.code.specs.Points.{pointsOn}
+use Rattle.points.specs.Points.{pointsOn}
 use Rattle.code.specs.Terms.{weights, size}
 use Rattle.code.specs.Word.{monomial, valueAt, wordOf}
 

@@ -30,20 +30,21 @@ use Rattle.poly.proofs.Interleaving.{place-lt, interleaved-take}
 use Rattle.poly.proofs.Interpolants.{at-column, interleaved-unique}
 use Rattle.poly.proofs.Blocks.{blocks-ext}
 use Rattle.poly.proofs.Parts.{below-take}
-use Rattle.code.specs.Points.{ysOf}
+use Rattle.points.specs.Points.{ysOf}
+use Rattle.points.specs.inner.Columns.{columnY}
+use Rattle.points.proofs.ColumnPoints.{length-ys}
+use Rattle.points.proofs.Points.{nodup-ys}
 use Rattle.code.specs.Terms.{weights, size}
 use Rattle.code.specs.Word.{wordOf}
 use Rattle.code.specs.inner.Grid.{entryOf, scatter, gather, orderAtMost}
 use Rattle.code.specs.Fitting.{fitting}
 use Rattle.code.specs.Answers.{answered}
 use Rattle.code.specs.Unencoded.{theMessage}
-use Rattle.code.specs.inner.Columns.{columnY}
 use Rattle.code.specs.inner.Readable.{WordOver, InterpolatedInY, gridValue, GridOf, GridInFront, readOver, gridAnswer}
 use Rattle.code.proofs.GridEntries.{length-scatter, length-gather, gather-scatter, gather-number}
 use Rattle.code.proofs.GridLaw.{two-stages}
 use Rattle.code.proofs.Order.{within-scatter, within-message}
-use Rattle.code.proofs.Columns.{length-ys, word-at, word-length}
-use Rattle.code.proofs.Points.{nodup-ys}
+use Rattle.code.proofs.WordColumns.{word-at, word-length}
 use Rattle.code.proofs.Stages.{columns-below, symbols-scatter, ys-below}
 use Rattle.code.proofs.Fitting.{Fits}
 use Rattle.code.proofs.Readings.{Fitting, fitting-list, none-listed}

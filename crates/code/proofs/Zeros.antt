@@ -27,13 +27,13 @@ use Rattle.poly.proofs.OrderDomain.{product as order-product}
 use Rattle.poly.proofs.OrderValues.{value, value-order, coefficients}
 use Rattle.poly.proofs.OrderZeros.{zeros as order-zeros}
 use Rattle.poly.proofs.OrderInterpolation.{spanned}
-use Rattle.code.specs.Points.{onCurve, pointsOn}
+use Rattle.points.specs.Points.{onCurve, pointsOn}
+use Rattle.points.proofs.Passing.{place}
+use Rattle.points.proofs.Points.{IsPoint, is-point, nodup-points}
 use Rattle.code.specs.Terms.{isTerm, size}
 use Rattle.code.specs.Word.{valueAt, wordOf}
-use Rattle.code.proofs.Passing.{place}
 use Rattle.code.proofs.Hermitian.{powers, term, hermitian, indicators}
 use Rattle.code.proofs.Coefficients.{valueByWeight, coefficientOf, value-by-weight, messageOf, value-of-message, vector-message, zero-message}
-use Rattle.code.proofs.Points.{IsPoint, is-point, nodup-points}
 use Rattle.code.proofs.Word.{value-plus, pointAt, word-at-point}
 
 -- ---- points numbered from 0, and coefficients by weight; any field and any q > 1

@@ -1,6 +1,3 @@
-pub mod Passing
-pub mod Points
-pub mod PointTable
 pub mod Terms
 pub mod Word
 pub mod Checks

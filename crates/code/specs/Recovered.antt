@@ -6,7 +6,7 @@ use lib.ListN.{length}
 use Rattle.field.specs.Curve.{isShort, curveOf}
 use Rattle.field.specs.declared.outcome.Outcome.{Outcome}
 use Rattle.field.specs.declared.outcome.Outcome.the-variants.{Done, NoMessage, Several}
-use Rattle.code.specs.Points.{columnsOf}
+use Rattle.points.specs.Points.{columnsOf}
 use Rattle.code.specs.Terms.{size}
 use Rattle.code.specs.Word.{wordOf}
 use Rattle.code.specs.Exponent.{exponent}

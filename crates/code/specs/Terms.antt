@@ -5,7 +5,7 @@ use mathlib.Core.List.{List}
 use Prim.Native.Nat.{ℕ, suc, _-_, _/_, _%_}
 use lib.Dec.{leb}
 use lib.ListN.{length}
-use Rattle.code.specs.Passing.{passing}
+use Rattle.points.specs.Passing.{passing}
 
 -- w is the weight of a term
 abbrev pub isTerm : ℕ → ℕ → Bool

@@ -5,7 +5,7 @@ use lib.ListN.{getD}
 use Rattle.field.specs.Power.{power}
 use Rattle.field.specs.Sum.{sum}
 use Rattle.field.proofs.Fields.{fieldOf}
-use Rattle.code.specs.Points.{pointsOn}
+use Rattle.points.specs.Points.{pointsOn}
 use Rattle.code.specs.Terms.{xPower, yPower, weights, size}
 
 -- the term of weight w at (x, y)

@@ -1,5 +1,4 @@
 pub mod Grid
-pub mod Columns
 pub mod Encodable
 pub mod Rows
 pub mod Recovering

@@ -6,9 +6,9 @@ ghost use Rattle.field.specs.Curve.{IsCurve, IsShort};
 ghost use Rattle.field.proofs.Fields.{fieldOf};
 ghost use Rattle.poly.specs.inner.Linear.{entry};
 ghost use Rattle.poly.specs.inner.Ranges.{Below, Blocks};
-ghost use Rattle.code.specs.Points.{columnsOf};
+ghost use Rattle.points.specs.Points.{columnsOf};
+ghost use Rattle.points.specs.inner.Columns.{PaddedYs};
 ghost use Rattle.code.specs.Word.{wordOf};
-ghost use Rattle.code.specs.inner.Columns.{PaddedYs};
 ghost use Rattle.code.specs.inner.Grid.{scatter};
 ghost use Rattle.code.specs.inner.Encodable.{Encodable, Staged, Rowed, inY, columnValue, gridColumn};
 ghost use Rattle.code.specs.Answers.{answered};
@@ -16,7 +16,6 @@ ghost use Rattle.code.specs.Encoded.{encoded};
 use crate::check;
 use crate::grid;
 use crate::long_block;
-use crate::point;
 use crate::term;
 use field::Outcome;
 use poly::lanes;
@@ -101,7 +100,7 @@ fn evaluate_short_columns(q: u8, columns: &[u8], rows: &[u8], word: &mut [u8])
     requires { ⌜ Staged q (now columns) (now rows) × (16 * q ≤ length (now rows)) × (q * length (now columns) ≤ length (now word)) × IsShort q ⌝ }
     ensures { λ _. ⌜ Blocks q (columnValue q (now (columns .entry)) (now (rows .entry))) (now (word .exit)) (length (now (columns .entry))) ⌝ }
 {
-    let all = point::padded_ys(q);
+    let all = points::padded_ys(q);
     evaluate_columns(q, &all, columns, rows, word);
 }
 
@@ -110,7 +109,7 @@ pub fn write_word(q: u8, m: usize, message: &[u8], word: &mut [u8])
     requires { ⌜ Encodable q (columnsOf q) m (now message) (now word) × IsShort q ⌝ }
     ensures { λ _. ⌜ now (word .exit) ≡ wordOf q (columnsOf q) m (now (message .entry)) ⌝ }
 {
-    let columns = point::columns();
+    let columns = points::columns();
     let width = q as usize;
     let c = width * width;
     let mut rows = [0u8; 64];
@@ -134,8 +133,8 @@ fn write_long_columns(n: usize, grid: &[u8], word: &mut [u8])
     requires { ⌜ Below (fieldOf 8 .size) (now grid) × (1 ≤ n) × (8 * n ≤ length (now grid)) × (length (now word) ≡ 512) ⌝ }
     ensures { λ _. ⌜ Blocks 8 (gridColumn 8 (columnsOf 8) n (now (grid .entry))) (now (word .exit)) 64 ⌝ }
 {
-    let all = point::padded_long_ys();
-    let columns = point::long_columns();
+    let all = points::padded_long_ys();
+    let columns = points::long_columns();
     let mut from = 0;
     while from < 64 {
         let to = from + 16;

@@ -1,9 +1,7 @@
 // The curve, its words, and their encoding and unencoding.
 pub mod check;
 pub mod encoding;
-pub mod equation;
 pub mod grid;
 pub mod long_block;
-pub mod point;
 pub mod term;
 pub mod unencoding;

@@ -2,8 +2,8 @@
 // arrays out of the frames of short blocks.
 ghost use mathlib.Core.Bool.{true, false};
 ghost use mathlib.Core.Path.{_≡_};
+ghost use Rattle.points.specs.Points.{columnsOf};
 ghost use Rattle.code.specs.Answers.{answered};
-ghost use Rattle.code.specs.Points.{columnsOf};
 ghost use Rattle.code.specs.inner.Encodable.{Encodable};
 ghost use Rattle.code.specs.inner.Readable.{Readable, longAnswer};
 use crate::encoding;

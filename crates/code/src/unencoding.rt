@@ -3,16 +3,15 @@ ghost use mathlib.Core.Path.{_≡_};
 ghost use Prim.Native.Nat.{ℕ, _*_, _≤_, _<_};
 ghost use lib.ListN.{length, getD};
 ghost use Rattle.field.specs.Curve.{IsCurve, IsShort};
-ghost use Rattle.code.specs.Points.{columnsOf};
+ghost use Rattle.points.specs.Points.{columnsOf};
+ghost use Rattle.points.specs.inner.Columns.{PaddedYs};
 ghost use Rattle.code.specs.Terms.{size};
-ghost use Rattle.code.specs.inner.Columns.{PaddedYs};
 ghost use Rattle.code.specs.Answers.{answered};
 ghost use Rattle.code.specs.inner.Readable.{WordOver, InterpolatedInY, GridInFront, Readable, readOver, gridAnswer};
 ghost use Rattle.code.specs.Unencoded.{unencoded};
 use crate::check;
 use crate::grid;
 use crate::long_block;
-use crate::point;
 use field::Outcome;
 use poly::interpolation;
 use poly::lanes;
@@ -46,10 +45,10 @@ fn interpolate_in_y(q: u8, columns: &[u8], word: &[u8], work: &mut [u8])
     ensures { λ _. ⌜ InterpolatedInY q (now (columns .entry)) (now (word .entry)) (now (work .exit)) ⌝ }
 {
     if q == 8 {
-        let all = point::padded_long_ys();
+        let all = points::padded_long_ys();
         interpolate_columns(q, &all, columns, word, work);
     } else {
-        let all = point::padded_ys(q);
+        let all = points::padded_ys(q);
         interpolate_columns(q, &all, columns, word, work);
     }
 }
@@ -59,11 +58,11 @@ pub fn interpolate_short(q: u8, word: &[u8]) -> [u8; 64]
     requires { ⌜ WordOver q (columnsOf q) (now word) × IsShort q ⌝ }
     ensures { λ r. ⌜ GridInFront q (columnsOf q) (now (word .entry)) r × (length r ≡ 64) ⌝ }
 {
-    let mut tree = point::tree_4();
+    let mut tree = points::tree_4();
     if q == 2 {
-        tree = point::tree_2();
+        tree = points::tree_2();
     }
-    let columns = point::columns();
+    let columns = points::columns();
     let width = q as usize;
     let c = width * width;
     let end = 16 * c;
@@ -80,8 +79,8 @@ pub fn interpolate_long(word: &[u8]) -> [u8; 512]
     requires { ⌜ WordOver 8 (columnsOf 8) (now word) ⌝ }
     ensures { λ r. ⌜ GridInFront 8 (columnsOf 8) (now (word .entry)) r × (length r ≡ 512) ⌝ }
 {
-    let columns = point::long_columns();
-    let tree = point::long_tree();
+    let columns = points::long_columns();
+    let tree = points::long_tree();
     let mut work = [0u8; 1024];
     interpolate_in_y(8, &columns, word, &mut work);
     interpolation::interpolate(8, 8, &columns, &tree, &mut work);

@@ -8,8 +8,8 @@ use Prim.Native.Nat.{ℕ, _+_, _≤_, _<_}
 use native.Mathlib.Decide.{ℕ-discrete}
 use native.Mathlib.Omega.{arith}
 use lib.ListN.{length, getD, take}
-use Rattle.code.specs.inner.Recovering.{Advanced}
-use Rattle.code.proofs.Collecting.{taken-gap, collected-more}
+use Rattle.equations.specs.inner.Collecting.{Advanced}
+use Rattle.equations.proofs.Collecting.{taken-gap, collected-more}
 use Rattle.job.specs.Symbols.{arrivedIn}
 use Rattle.job.specs.inner.Bringing.{Counted, Ready, Collecting, Collects, Compared}
 use Rattle.job.proofs.Symbols.{count-gap, count-symbol}

@@ -14,10 +14,10 @@ use Rattle.field.specs.declared.outcome.Outcome.the-variants.{Done}
 use Rattle.field.proofs.Curves.{sizes, short-sizes, short-curve}
 use Rattle.poly.specs.Messages.{Vector}
 use Rattle.poly.specs.inner.Rows.{stored}
-use Rattle.code.specs.Points.{columnsOf}
+use Rattle.poly.proofs.Entries.{copied}
+use Rattle.points.specs.Points.{columnsOf}
 use Rattle.code.specs.Terms.{size}
 use Rattle.code.specs.inner.Recovering.{BrokenOver}
-use Rattle.code.proofs.Collecting.{copied}
 use Rattle.job.specs.declared.bringing.Progress.{Progress}
 use Rattle.job.specs.declared.Job.{Job}
 use Rattle.job.specs.declared.Reply.{Reply}
@@ -30,8 +30,7 @@ use Rattle.job.specs.inner.Bringing.{Usable, Tested, Brings, replyBy}
 use Rattle.job.proofs.Openings.{open-block, open-order, open-broken, open-short}
 use Rattle.job.proofs.Calls.{carried-takes}
 use Rattle.job.proofs.Tellings.{gives}
-use Rattle.job.proofs.Results.{done-after, stopped-more, share-brought}
-use Rattle.job.proofs.Results.{replied-message, replied-other}
+use Rattle.job.proofs.Results.{done-after, stopped-more, share-brought, replied-message, replied-other}
 
 -- ---- a sound job passes the test
 

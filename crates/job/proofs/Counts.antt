@@ -11,9 +11,10 @@ use lib.ListN.{length, take}
 use Rattle.field.specs.Curve.{IsCurve}
 use Rattle.field.proofs.Curves.{sizes, two-symbols}
 use Rattle.poly.specs.Sets.{ListOf, Exactly}
-use Rattle.linear.proofs.Elimination.{PowerOrNone}
 use Rattle.poly.proofs.Sets.{same-length, list-iff}
-use Rattle.code.specs.Points.{columnsOf}
+use Rattle.linear.proofs.Elimination.{PowerOrNone}
+use Rattle.points.specs.Points.{columnsOf}
+use Rattle.points.proofs.ColumnPoints.{full-places}
 use Rattle.code.specs.Terms.{size}
 use Rattle.code.specs.Word.{wordOf}
 use Rattle.code.specs.Exponent.{exponent}
@@ -21,7 +22,6 @@ use Rattle.code.specs.Fitting.{fitting}
 use Rattle.code.specs.inner.Recovering.{BrokenOver}
 use Rattle.code.specs.Recovered.{read, reading}
 use Rattle.code.proofs.Exponents.{exponent-power}
-use Rattle.code.proofs.FullColumns.{full-places}
 use Rattle.code.proofs.Facts.{Broken, facts}
 use Rattle.code.proofs.Readings.{Fitting, fitting-list, length-fitting}
 use Rattle.code.proofs.Recoveries.{readingOf}

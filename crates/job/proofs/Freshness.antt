@@ -18,15 +18,15 @@ use Rattle.field.proofs.Fields.{fieldOf}
 use Rattle.poly.specs.inner.Linear.{entry}
 use Rattle.poly.specs.inner.Ranges.{writes}
 use Rattle.poly.specs.inner.Rows.{stored}
-use Rattle.linear.specs.inner.Systems.{flat, rank}
 use Rattle.poly.proofs.Writes.{length-writes, writes-in, writes-out}
 use Rattle.poly.proofs.Entries.{getD-zeros}
+use Rattle.linear.specs.inner.Systems.{flat, rank}
 use Rattle.linear.proofs.WellFormed.{blank-formed, blank-rank}
-use Rattle.code.specs.Points.{columnsOf}
+use Rattle.points.specs.Points.{columnsOf}
 use Rattle.code.specs.Terms.{size}
-use Rattle.code.specs.inner.Recovering.{Collected}
 use Rattle.code.proofs.Checks.{call-done}
-use Rattle.code.proofs.Collecting.{collected-none}
+use Rattle.equations.specs.inner.Collecting.{Collected}
+use Rattle.equations.proofs.Collecting.{collected-none}
 use Rattle.job.specs.declared.Job.{Job}
 use Rattle.job.specs.Symbols.{arrivedIn}
 use Rattle.job.specs.Task.{Task, storedWord, taskOf}

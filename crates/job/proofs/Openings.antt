@@ -13,8 +13,8 @@ use Rattle.field.specs.Outcomes.{number, refuse}
 use Rattle.field.specs.declared.outcome.Outcome.{Outcome}
 use Rattle.field.specs.declared.outcome.Outcome.the-variants.{Done, BadCurve, BadOrder, BadLength, BadValue, BadRoom}
 use Rattle.field.proofs.Curves.{short-curve, short-of-true, short-true}
-use Rattle.code.specs.Passing.{passing}
-use Rattle.code.specs.Points.{columnsOf}
+use Rattle.points.specs.Passing.{passing}
+use Rattle.points.specs.Points.{columnsOf}
 use Rattle.code.specs.Terms.{size}
 use Rattle.code.specs.Checks.{orderChecks, badValue, firstBad, sliceChecks}
 use Rattle.code.specs.Answers.{answered}

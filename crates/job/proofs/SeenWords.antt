@@ -11,16 +11,17 @@ use Rattle.field.specs.Curve.{IsCurve}
 use Rattle.field.proofs.Curves.{sizes}
 use Rattle.field.proofs.Fields.{fieldOf}
 use Rattle.poly.specs.inner.Linear.{entry}
-use Rattle.code.specs.Points.{columnsOf}
+use Rattle.points.specs.Points.{columnsOf}
 use Rattle.code.specs.Terms.{size}
 use Rattle.code.specs.Word.{wordOf}
 use Rattle.code.specs.Recovered.{Reading, nothing, message, several, reading}
-use Rattle.code.specs.inner.Recovering.{BrokenOver, FitsBelow, Collected}
+use Rattle.code.specs.inner.Recovering.{BrokenOver}
 use Rattle.code.proofs.Fitting.{Fits}
 use Rattle.code.proofs.Rows.{word-dot}
 use Rattle.code.proofs.Readings.{reading-nothing, reading-message}
-use Rattle.code.proofs.ReadingSystems.{missing-several}
 use Rattle.code.proofs.Recoveries.{readingOf}
+use Rattle.equations.specs.inner.Collecting.{FitsBelow, Collected}
+use Rattle.equations.proofs.ReadingSystems.{missing-several}
 use Rattle.job.specs.Symbols.{arrivedIn, broughtIn}
 use Rattle.job.specs.Sound.{NoneBelow, OnlyBelow}
 use Rattle.job.proofs.Symbols.{length-brought, brought-before, brought-after, brought-value}

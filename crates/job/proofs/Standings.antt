@@ -15,11 +15,12 @@ use Rattle.poly.specs.Messages.{Vector}
 use Rattle.poly.specs.inner.Linear.{entry}
 use Rattle.linear.specs.inner.Systems.{flat, rank, WellFormed, Solves}
 use Rattle.linear.proofs.Solutions.{solves-vector, solves-only}
-use Rattle.code.specs.Points.{columnsOf}
+use Rattle.points.specs.Points.{columnsOf}
 use Rattle.code.specs.Terms.{size}
 use Rattle.code.specs.Word.{wordOf}
-use Rattle.code.specs.inner.Recovering.{BrokenOver, FitsBelow, Collected}
+use Rattle.code.specs.inner.Recovering.{BrokenOver}
 use Rattle.code.proofs.Rows.{word-dot}
+use Rattle.equations.specs.inner.Collecting.{FitsBelow, Collected}
 use Rattle.job.specs.Sound.{NoneBelow, OnlyBelow, Standing}
 use Rattle.job.specs.declared.bringing.Progress.{Progress}
 use Rattle.job.specs.inner.Bringing.{Counted, Stopped, Collects, Compared, Usable, Brings}

@@ -14,10 +14,10 @@ use Rattle.field.specs.Outcomes.{number}
 use Rattle.field.specs.declared.outcome.Outcome.{Outcome}
 use Rattle.field.specs.declared.outcome.Outcome.the-variants.{Done}
 use Rattle.field.proofs.Curves.{short-sizes}
+use Rattle.points.proofs.ColumnPoints.{full-places}
 use Rattle.code.specs.Terms.{size}
 use Rattle.code.specs.Answers.{Answer, answered}
 use Rattle.code.specs.Recovered.{Reading, nothing, message, several, answerOf, recovered}
-use Rattle.code.proofs.FullColumns.{full-places}
 use Rattle.code.proofs.Recoveries.{readingOf}
 use Rattle.job.specs.declared.Job.{Job}
 use Rattle.job.specs.declared.Reply.{Reply}

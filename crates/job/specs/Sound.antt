@@ -10,10 +10,10 @@ use Rattle.field.proofs.Fields.{fieldOf}
 use Rattle.poly.specs.Messages.{Vector}
 use Rattle.poly.specs.inner.Linear.{entry}
 use Rattle.linear.specs.inner.Systems.{flat, rank}
-use Rattle.code.specs.Points.{columnsOf}
+use Rattle.points.specs.Points.{columnsOf}
 use Rattle.code.specs.Terms.{size}
 use Rattle.code.specs.Word.{wordOf}
-use Rattle.code.specs.inner.Recovering.{FitsBelow, Collected}
+use Rattle.equations.specs.inner.Collecting.{FitsBelow, Collected}
 use Rattle.job.specs.declared.Job.{Job}
 use Rattle.job.specs.Task.{storedWord}
 use Rattle.job.specs.Opened.{openChecks}

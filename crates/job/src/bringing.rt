@@ -6,7 +6,7 @@ ghost use lib.ListN.{length};
 ghost use Rattle.field.specs.Curve.{IsShort};
 ghost use Rattle.field.proofs.Fields.{fieldOf};
 ghost use Rattle.linear.specs.inner.Systems.{flat, rank, WellFormed, Full, Solves};
-ghost use Rattle.code.specs.Points.{columnsOf};
+ghost use Rattle.points.specs.Points.{columnsOf};
 ghost use Rattle.code.specs.Terms.{size};
 ghost use Rattle.code.specs.Word.{wordOf};
 ghost use Rattle.code.specs.inner.Grid.{entriesOf};
@@ -14,8 +14,6 @@ ghost use Rattle.code.specs.inner.Recovering.{BrokenOver};
 ghost use Rattle.job.specs.inner.Bringing.{Counted, Stopped, Ready, Collects, Compared, Usable, Brings};
 use crate::work;
 use code::encoding;
-use code::equation;
-use code::point;
 use code::term;
 use field::Curve;
 use linear::system;
@@ -70,7 +68,7 @@ fn bring_equations(
                     brought,
                 };
             }
-            let r = equation::step(q, columns, m, entries, p, s, rank, work);
+            let r = equations::step(q, columns, m, entries, p, s, rank, work);
             brought += 1;
             if r.clash {
                 return Progress {
@@ -110,7 +108,7 @@ fn collect(
 {
     let mut entries = [0u16; 64];
     term::entries(q, m, &mut entries);
-    let columns = point::columns();
+    let columns = points::columns();
     let curve = Curve::at(q);
     let c = curve.symbols as usize;
     let rows = work::rank(k, work);

@@ -11,11 +11,11 @@ use lib.ListN.{length, getD, replicate, take, drop, length-drop}
 use lib.Seq.{length-take-le}
 use Rattle.field.specs.declared.outcome.Outcome.{Outcome}
 use Rattle.field.specs.Outcomes.{number, second}
+use Rattle.points.specs.inner.Columns.{Ys}
+use Rattle.points.proofs.YsTables.{table-at}
 use Rattle.code.specs.Answers.{Answer, answered}
 use Rattle.code.specs.Recovered.{recovered}
-use Rattle.code.specs.inner.Columns.{Ys}
 use Rattle.code.proofs.Checks.{good-symbol, good-gap, bad-gap}
-use Rattle.code.proofs.YsTables.{table-at}
 use Rattle.lines.specs.Text.{hexDigit, joined, Written}
 use Rattle.lines.specs.Page.{character, pointText, columnLine, severalText, resultText, lastLine, pageOf}
 use Rattle.lines.proofs.Texts.{next}

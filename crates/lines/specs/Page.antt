@@ -6,8 +6,8 @@ use lib.Dec.{eqb}
 use lib.ListN.{length, getD, replicate, take, drop}
 use Rattle.field.specs.Outcomes.{number, second}
 use Rattle.field.specs.declared.outcome.Outcome.{Outcome}
+use Rattle.points.specs.Points.{ysOf}
 use Rattle.code.specs.Checks.{badValue}
-use Rattle.code.specs.Points.{ysOf}
 use Rattle.code.specs.Recovered.{recovered}
 use Rattle.lines.specs.Text.{hexDigit, decimal, joined}
 

@@ -2,12 +2,10 @@
 ghost use mathlib.Core.Path.{_≡_};
 ghost use Prim.Native.Nat.{_+_, _*_, _/_, _≤_, _<_};
 ghost use lib.ListN.{length};
-ghost use Rattle.code.specs.inner.Columns.{Ys};
+ghost use Rattle.points.specs.inner.Columns.{Ys};
 ghost use Rattle.lines.specs.Text.{joined, Written};
-ghost use Rattle.lines.specs.Page.{character as Page·character};
-ghost use Rattle.lines.specs.Page.{pointText, columnLine, severalText, resultText, lastLine, pageOf, pagesOf};
+ghost use Rattle.lines.specs.Page.{character as Page·character, pointText, columnLine, severalText, resultText, lastLine, pageOf, pagesOf};
 use crate::text;
-use code::point;
 use field::outcome;
 
 // The character of a stored value.
@@ -52,7 +50,7 @@ fn column_lines(block: &[u8], at: usize, out: &mut [u8]) -> usize
     requires { ⌜ (length (now block) ≡ 64) × (at + 304 ≤ length (now out)) ⌝ }
     ensures { λ r. ⌜ Written (now (out .entry)) at (joined (columnLine (now (block .entry))) 16) r (now (out .exit)) × (r ≡ at + 304) ⌝ }
 {
-    let ys = point::ys(4);
+    let ys = points::ys(4);
     let mut x = 0;
     let mut end = at;
     while x < 16 {

@@ -3,8 +3,7 @@ ghost use mathlib.Core.Path.{_≡_};
 ghost use mathlib.Core.List.{_++_, map};
 ghost use Prim.Native.Nat.{_+_, _≤_};
 ghost use lib.ListN.{length};
-ghost use Rattle.lines.specs.Text.{hexDigit, Written};
-ghost use Rattle.lines.specs.Text.{decimal as Text·decimal};
+ghost use Rattle.lines.specs.Text.{hexDigit, Written, decimal as Text·decimal};
 
 pub fn bytes(text: &[u8], at: usize, out: &mut [u8]) -> usize
     requires { ⌜ at + length (now text) ≤ length (now out) ⌝ }

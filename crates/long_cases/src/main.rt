@@ -1,6 +1,9 @@
 // Runs the entries that take long blocks on the cases of standard input, records of 1136 bytes, and prints a line for each.
 // The module `long_case_record` of host/reference has the layout of a record and of its line.
 ghost use Prim.Native.Nat.{_≤_};
+use case_lines::number;
+use case_lines::print_answer;
+use case_lines::print_values;
 use field::Outcome;
 use libc::STDIN_FILENO;
 use libc::STDOUT_FILENO;
@@ -10,40 +13,6 @@ fn room(length: usize) -> usize
     ensures { λ r. ⌜ (r ≤ length) × (r ≤ 560) ⌝ }
 {
     if length < 560 { length } else { 560 }
-}
-
-fn print_number(n: u16) {
-    io::print_decimal(STDOUT_FILENO, n as u64);
-}
-
-// The number of two bytes.
-fn number(low: u8, high: u8) -> u16 {
-    (low as u16) + 256 * (high as u16)
-}
-
-// The op and the two numbers of the answer, each with a space after it.
-fn print_answer(op: u8, outcome: Outcome) {
-    io::write_all(STDOUT_FILENO, &[op, b' ']);
-    print_number(field::outcome::number(outcome) as u16);
-    io::write_all(STDOUT_FILENO, &[b' ']);
-    print_number(field::outcome::second(outcome));
-    io::write_all(STDOUT_FILENO, &[b' ']);
-}
-
-// Two hexadecimal digits for each of the first 560 values, and the byte after them.
-fn print_values(values: &[u8], after: u8) {
-    let mut text = [after; 1121];
-    let mut at = 0;
-    let mut j = 0;
-    let n = room(values.len());
-    while j < n {
-        text[at] = lines::text::hex_digit(values[j] / 16);
-        text[at + 1] = lines::text::hex_digit(values[j]);
-        at += 2;
-        j += 1;
-    }
-    let end = at + 1;
-    io::write_all(STDOUT_FILENO, &text[..end]);
 }
 
 fn run_on_slices(op: u8, q: u8, m: u16, input: &[u8], output: &mut [u8]) -> Outcome {

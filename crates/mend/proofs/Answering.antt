@@ -12,7 +12,7 @@ use Rattle.field.specs.declared.outcome.Outcome.{Outcome}
 use Rattle.field.specs.declared.outcome.Outcome.the-variants.{Done, NoneNear}
 use Rattle.field.proofs.Curves.{short-curve, short-sizes}
 use Rattle.field.proofs.Outcomes.{not-done}
-use Rattle.code.specs.Points.{columnsOf}
+use Rattle.points.specs.Points.{columnsOf}
 use Rattle.code.specs.Word.{wordOf}
 use Rattle.code.proofs.Answers.{Refused}
 use Rattle.code.specs.inner.Encodable.{Encodable}

@@ -13,7 +13,7 @@ use Rattle.field.specs.declared.outcome.Outcome.the-variants.{Done}
 use Rattle.field.proofs.Outcomes.{done-or-not}
 use Rattle.field.proofs.Curves.{short-curve}
 use Rattle.poly.specs.Messages.{Vector}
-use Rattle.code.specs.Points.{columnsOf}
+use Rattle.points.specs.Points.{columnsOf}
 use Rattle.code.specs.Terms.{size}
 use Rattle.code.specs.Word.{wordOf}
 use Rattle.code.specs.Answers.{Answer, answered}

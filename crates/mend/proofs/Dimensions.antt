@@ -9,8 +9,8 @@ use native.Mathlib.Omega.{arith}
 use Rattle.field.specs.Curve.{IsCurve, IsShort}
 use Rattle.field.proofs.Curves.{each-curve, each-short, short-curve}
 use Rattle.poly.proofs.Bools.{true-or-false}
+use Rattle.points.proofs.Passing.{place, place-true, place-false}
 use Rattle.code.specs.Terms.{isTerm, size}
-use Rattle.code.proofs.Passing.{place, place-true, place-false}
 use Rattle.code.proofs.Weights.{curve-pos, twice-genus, size-from-genus, size-le}
 use Rattle.mend.specs.Mended.{radius}
 use Rattle.mend.specs.inner.Locating.{genus, reach}

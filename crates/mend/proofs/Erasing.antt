@@ -11,15 +11,16 @@ use lib.ListN.{length, getD, take}
 use Rattle.field.proofs.Curves.{sizes, short-curve}
 use Rattle.poly.specs.inner.Ranges.{writes}
 use Rattle.poly.proofs.Writes.{length-writes, writes-in}
-use Rattle.code.specs.Points.{columnsOf}
+use Rattle.poly.proofs.Fronts.{front-again}
+use Rattle.points.specs.Points.{columnsOf}
+use Rattle.points.proofs.ColumnPoints.{length-upTo, full-columns, full-places}
 use Rattle.code.specs.Word.{wordOf}
 use Rattle.code.specs.inner.Encodable.{Encodable}
 use Rattle.code.specs.inner.Recovering.{BrokenOver}
-use Rattle.code.proofs.FullColumns.{length-upTo, full-columns, full-places, encodable}
+use Rattle.code.proofs.FullColumns.{encodable}
 use Rattle.code.proofs.Inverse.{message-accepted}
 use Rattle.mend.specs.inner.Locating.{symbolAt, reach, erasedAt, Mendable, Locator, Erased}
 use Rattle.mend.proofs.Dimensions.{reach-lt}
-use Rattle.poly.proofs.Fronts.{front-again}
 
 -- what a turn of erasing stores; now is what it reads of located
 module _ (word located : List ℕ) (p now v : ℕ) (kept : now ≡ getD located p 0) where

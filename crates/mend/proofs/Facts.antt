@@ -18,8 +18,8 @@ use Rattle.field.proofs.Curves.{short-curve}
 use Rattle.poly.specs.Lists.{oneIf, count, below}
 use Rattle.poly.proofs.Below.{of-mem-below}
 use Rattle.poly.proofs.Lists.{count-cong}
+use Rattle.points.specs.Points.{columnsOf}
 use Rattle.code.specs.Answers.{Answer, answered as answered-as}
-use Rattle.code.specs.Points.{columnsOf}
 use Rattle.code.specs.Unencoded.{unencoded}
 use Rattle.code.specs.Word.{wordOf}
 use Rattle.code.proofs.Inverse.{unencode-encode}
@@ -27,8 +27,7 @@ use Rattle.mend.specs.Mended.{radius, differsAt, differing, marksOf, Men
 use Rattle.mend.specs.inner.Locating.{Near}
 use Rattle.mend.proofs.Counts.{length-marks, mark-at}
 use Rattle.mend.proofs.Candidates.{own-message}
-use Rattle.mend.proofs.Menders.{checks-passed, nearest, near-list, mended-refused, mended-near, mended-none}
-use Rattle.mend.proofs.Menders.{differing-zero, codeword-near, word-long}
+use Rattle.mend.proofs.Menders.{checks-passed, nearest, near-list, mended-refused, mended-near, mended-none, differing-zero, codeword-near, word-long}
 
 -- ---- marks
 

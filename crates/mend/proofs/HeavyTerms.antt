@@ -21,13 +21,13 @@ use Rattle.poly.proofs.Messages.{tabulate, getD-tabulate, vector-tabulate, vect
 use Rattle.poly.proofs.Values.{value-cong, value-sum, value-scale}
 use Rattle.poly.proofs.Interpolants.{at-column}
 use Rattle.poly.proofs.Interleaving.{place-lt}
+use Rattle.points.specs.Points.{ysOf, columnsOf}
+use Rattle.points.proofs.ColumnPoints.{full-columns, full-places, length-upTo}
 use Rattle.code.specs.inner.Grid.{gather}
-use Rattle.code.specs.Points.{ysOf, columnsOf}
 use Rattle.code.specs.inner.Readable.{WordOver, gridValue, GridOf}
 use Rattle.code.specs.inner.Rows.{rowOf}
 use Rattle.code.specs.Terms.{size}
 use Rattle.code.specs.Word.{wordOf}
-use Rattle.code.proofs.FullColumns.{full-columns, full-places, length-upTo}
 use Rattle.code.proofs.Order.{within-of, of-within}
 use Rattle.code.proofs.Readings.{Fitting}
 use Rattle.code.proofs.Rows.{word-dot}

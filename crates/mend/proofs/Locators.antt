@@ -20,7 +20,8 @@ use Rattle.poly.specs.Messages.{Vector}
 use Rattle.poly.specs.inner.Linear.{entry, dot}
 use Rattle.poly.proofs.Lists.{getD-mem}
 use Rattle.poly.proofs.Homogeneous.{nonzero-solution}
-use Rattle.code.specs.Points.{columnsOf}
+use Rattle.points.specs.Points.{columnsOf}
+use Rattle.points.proofs.ColumnPoints.{full-columns, full-places}
 use Rattle.code.specs.Terms.{size}
 use Rattle.code.specs.Word.{wordOf}
 use Rattle.code.specs.Fitting.{fitting}
@@ -28,13 +29,11 @@ use Rattle.code.specs.Recovered.{message, reading}
 use Rattle.code.specs.inner.Rows.{rowOf}
 use Rattle.code.proofs.Facts.{facts}
 use Rattle.code.proofs.Fitting.{Fits}
-use Rattle.code.proofs.FullColumns.{full-columns, full-places}
 use Rattle.code.proofs.Readings.{Fitting, fitting-list, reads-message, reading-message}
 use Rattle.code.proofs.Rows.{word-dot}
 use Rattle.mend.specs.Mended.{radius, differsAt}
 use Rattle.mend.specs.inner.Locating.{symbolAt, reach, Mendable, Near, Product, Locator, Erased}
-use Rattle.mend.proofs.Counts.{to-eqb, to-differs, of-not-differs, places, length-places, nodup-places, mem-places, of-mem-places}
-use Rattle.mend.proofs.Counts.{count-else, count-else-two, differing-count}
+use Rattle.mend.proofs.Counts.{to-eqb, to-differs, of-not-differs, places, length-places, nodup-places, mem-places, of-mem-places, count-else, count-else-two, differing-count}
 use Rattle.mend.proofs.Dimensions.{radius-lt}
 use Rattle.mend.proofs.Symbols.{of-size, symbol-lt, product-of, zeroAt, few-zeros}
 

@@ -23,7 +23,7 @@ use Rattle.poly.proofs.Below.{count-not, length-below, mem-below}
 use Rattle.poly.proofs.Lists.{count-none, every-of-count}
 use Rattle.poly.proofs.Filter.{mem-filter, of-mem-filter, nodup-filter}
 use Rattle.poly.proofs.Messages.{mem-all, of-mem-all, nodup-all}
-use Rattle.code.specs.Points.{columnsOf}
+use Rattle.points.specs.Points.{columnsOf}
 use Rattle.code.specs.Terms.{size}
 use Rattle.code.specs.Word.{wordOf}
 use Rattle.code.proofs.Checks.{order-rest, slices-done, slices-follow, symbol-of-good}

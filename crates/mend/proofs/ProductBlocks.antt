@@ -17,7 +17,7 @@ use Rattle.poly.specs.inner.Rows.{stored}
 use Rattle.poly.proofs.Multiples.{stored-all}
 use Rattle.poly.proofs.Parts.{length-part, put-is, length-put, part-put, part-before}
 use Rattle.poly.proofs.Writes.{length-writes}
-use Rattle.code.specs.inner.Columns.{Columns}
+use Rattle.points.specs.inner.Columns.{Columns}
 use Rattle.mend.specs.inner.Products.{Takes, TimesX, timesYAt, product, block, Multiples, Products}
 use Rattle.mend.proofs.ProductGrids.{product-x, product-y}
 

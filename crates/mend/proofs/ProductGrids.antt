@@ -26,15 +26,14 @@ use Rattle.poly.proofs.Interpolants.{at-column}
 use Rattle.poly.proofs.Interleaving.{place-lt}
 use Rattle.poly.proofs.Values.{value-cong, value-lt, value-plus, value-scale, value-trinomial, value-rotated}
 use Rattle.poly.proofs.Writes.{writes-in, below-writes}
-use Rattle.code.specs.Points.{ysOf, columnsOf}
-use Rattle.code.specs.inner.Columns.{Columns, columnY}
+use Rattle.points.specs.Points.{ysOf, columnsOf}
+use Rattle.points.specs.inner.Columns.{Columns, columnY}
+use Rattle.points.proofs.ColumnPoints.{length-ys, length-upTo, full-columns, full-places}
+use Rattle.points.proofs.Points.{of-mem-ys}
+use Rattle.points.proofs.Places.{quotient, remainder}
 use Rattle.code.specs.inner.Readable.{WordOver, gridValue, GridInFront}
-use Rattle.code.specs.inner.Recovering.{termAt}
-use Rattle.code.proofs.Columns.{length-ys}
-use Rattle.code.proofs.FullColumns.{length-upTo, full-columns, full-places}
-use Rattle.code.proofs.Points.{of-mem-ys}
+use Rattle.code.specs.inner.Rows.{termAt}
 use Rattle.code.proofs.SymbolPowers.{power-size}
-use Rattle.code.proofs.Weights.{quotient, remainder}
 use Rattle.mend.specs.inner.Products.{xAt, yAt, Takes, TimesX, top, turned, timesYAt, product}
 
 at : (l : List ℕ) (i k : ℕ) → i ≡ k → getD l i 0 ≡ getD l k 0

@@ -17,18 +17,18 @@ use Rattle.field.proofs.Fields.{fieldOf}
 use Rattle.field.proofs.FieldLaws.{zero-lt}
 use Rattle.poly.specs.inner.Interpolation.{interleaved}
 use Rattle.poly.specs.inner.Ranges.{Below, part}
-use Rattle.linear.specs.inner.Systems.{flat, NonzeroSolved}
 use Rattle.poly.proofs.Interleaving.{place-lt}
 use Rattle.poly.proofs.Interpolants.{at-column}
 use Rattle.poly.proofs.Messages.{tabulate, getD-tabulate, vector-below}
 use Rattle.poly.proofs.Parts.{length-part, part-at}
 use Rattle.poly.proofs.Values.{value-cong}
-use Rattle.code.specs.Points.{ysOf, columnsOf}
+use Rattle.linear.specs.inner.Systems.{flat, NonzeroSolved}
+use Rattle.points.specs.Points.{ysOf, columnsOf}
+use Rattle.points.proofs.ColumnPoints.{full-places}
+use Rattle.points.proofs.Passing.{at-place}
 use Rattle.code.specs.Terms.{isTerm, xPower, yPower, weights, size}
 use Rattle.code.specs.inner.Readable.{gridValue, GridOf}
 use Rattle.code.specs.inner.Rows.{rowOf}
-use Rattle.code.proofs.FullColumns.{full-places}
-use Rattle.code.proofs.Passing.{at-place}
 use Rattle.code.proofs.Weights.{curve-pos, weight-of-powers, y-lt}
 use Rattle.mend.specs.inner.Candidates.{Located}
 use Rattle.mend.specs.inner.Locating.{reach, Mendable, TermProducts, HoldsHeavy}

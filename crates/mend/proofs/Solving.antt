@@ -16,7 +16,7 @@ use Rattle.poly.specs.inner.Linear.{entry, dot}
 use Rattle.linear.specs.inner.Systems.{flat, Satisfies, Full}
 use Rattle.linear.proofs.Solutions.{satisfies-unique}
 use Rattle.linear.proofs.WellFormed.{triangular}
-use Rattle.code.specs.Points.{columnsOf}
+use Rattle.points.specs.Points.{columnsOf}
 use Rattle.code.specs.Terms.{size}
 use Rattle.code.specs.inner.Readable.{GridOf}
 use Rattle.mend.specs.inner.Locating.{reach, Mendable, Locator, TermProducts, HoldsHeavy}

@@ -17,11 +17,11 @@ use Rattle.poly.specs.Lists.{count, below}
 use Rattle.poly.specs.Messages.{Vector}
 use Rattle.poly.proofs.Lists.{mem-getD}
 use Rattle.poly.proofs.Entries.{getD-zeros}
-use Rattle.code.specs.Points.{onCurve, pointsOn, columnsOf}
+use Rattle.points.specs.Points.{onCurve, pointsOn, columnsOf}
+use Rattle.points.proofs.Passing.{of-mem-passing}
+use Rattle.points.proofs.Points.{is-point}
 use Rattle.code.specs.Terms.{weights, size}
 use Rattle.code.specs.Word.{monomial, valueAt}
-use Rattle.code.proofs.Passing.{of-mem-passing}
-use Rattle.code.proofs.Points.{is-point}
 use Rattle.code.proofs.Word.{value-lt, pointAt, word-at-point}
 use Rattle.code.proofs.FullColumns.{full-points}
 use Rattle.code.proofs.Facts.{facts}

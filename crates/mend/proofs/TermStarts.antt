@@ -12,10 +12,10 @@ use Rattle.field.proofs.Curves.{short-curve, short-sizes}
 use Rattle.poly.specs.inner.Ranges.{writes}
 use Rattle.poly.proofs.Lists.{getD-map}
 use Rattle.poly.proofs.Writes.{writes-in}
+use Rattle.points.proofs.Passing.{at-place}
 use Rattle.code.specs.Terms.{isTerm, xPower, yPower, weights, size}
 use Rattle.code.specs.inner.Grid.{entryOf, entriesOf}
 use Rattle.code.proofs.GridEntries.{Split, entry-at-most}
-use Rattle.code.proofs.Passing.{at-place}
 use Rattle.code.proofs.Weights.{curve-pos, entry-x, entry-y}
 use Rattle.mend.specs.inner.Products.{startOf, Starts}
 

@@ -10,8 +10,8 @@ use Rattle.field.specs.declared.outcome.Outcome.{Outcome}
 use Rattle.field.specs.declared.outcome.Outcome.the-variants.{Done, BadRoom, NoneNear, NoRadius}
 use Rattle.poly.specs.Lists.{oneIf, count, below, filter}
 use Rattle.poly.specs.Messages.{all}
-use Rattle.code.specs.Passing.{upTo}
-use Rattle.code.specs.Points.{columnsOf}
+use Rattle.points.specs.Passing.{upTo}
+use Rattle.points.specs.Points.{columnsOf}
 use Rattle.code.specs.Terms.{size}
 use Rattle.code.specs.Word.{wordOf}
 use Rattle.code.specs.Checks.{orderChecks, sliceChecks}

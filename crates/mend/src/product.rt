@@ -6,7 +6,7 @@ ghost use Rattle.field.specs.Curve.{IsShort};
 ghost use Rattle.field.proofs.Fields.{fieldOf};
 ghost use Rattle.poly.specs.inner.Linear.{entry};
 ghost use Rattle.poly.specs.inner.Ranges.{Below, writes};
-ghost use Rattle.code.specs.Points.{columnsOf};
+ghost use Rattle.points.specs.Points.{columnsOf};
 ghost use Rattle.mend.specs.inner.Products.{TimesX, top, turned, timesYAt, Multiples, Products};
 use code::term;
 use code::unencoding;

@@ -1,11 +1,11 @@
 -- What stands at an index of a list: of zeros, after a store; and lists of symbols.
 -- Assumes nothing.
-use mathlib.Core.List.{List, [], _∷_, map}
+use mathlib.Core.List.{List, [], _∷_, _++_, map}
 use mathlib.Core.Path.{_≡_, refl, sym, ap₂, _∙_}
 use Prim.Native.Nat.{ℕ, _≤_, _<_}
 use native.Mathlib.Decide.{decLt, ℕ-discrete}
 use native.Mathlib.Omega.{arith}
-use lib.ListN.{length, getD, take, set, replicate, getD-replicate, length-replicate, List·getD-eq-default}
+use lib.ListN.{length, getD, take, set, replicate, getD-replicate, length-replicate, List·getD-append, List·getD-eq-default}
 use lib.Seq.{ext-getD, getD-set-same, getD-set-other, set-out}
 use Rattle.poly.specs.inner.Linear.{entry}
 use Rattle.poly.specs.inner.Rows.{stored}
@@ -55,3 +55,12 @@ padded k n l short fits t = elim (decLt t n) [
   | yes b ↦ writes-in (zeros k) (entry l) n t b (omega (arith, length-replicate {A = ℕ} k 0))
   | no d ↦ writes-out (zeros k) (entry l) n t (omega arith) ∙ getD-zeros k t ∙ sym (List·getD-eq-default l 0 {n = t} (omega arith))
 ]
+
+-- the front of a list, copied over a list of its length
+pub copied : (k : ℕ) (front rest list : List ℕ) → length front ≡ k → length list ≡ k → stored k (front ++ rest) list ≡ front
+unfolding stored
+copied k front rest list lf ll =
+    ext-getD 0 (writes list k (entry (front ++ rest))) front (length-writes list (entry (front ++ rest)) k ∙ ll ∙ sym lf)
+    (λ j l.
+    let b : j < k = omega (arith, length-writes list (entry (front ++ rest)) k) in
+    writes-in list (entry (front ++ rest)) k j b (omega arith) ∙ List·getD-append front rest 0 j (omega arith))

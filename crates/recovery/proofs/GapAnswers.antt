@@ -18,20 +18,20 @@ use Rattle.field.proofs.Fields.{fieldOf}
 use Rattle.poly.specs.Sets.{ListOf}
 use Rattle.poly.specs.inner.Ranges.{Below}
 use Rattle.poly.specs.inner.Linear.{entry}
-use Rattle.linear.specs.inner.Combinations.{rowsFrom, ZeroOn, Padded, Eliminated}
 use Rattle.poly.proofs.Bools.{true-or-false}
 use Rattle.poly.proofs.Parts.{below-take}
 use Rattle.poly.proofs.Blocks.{block-fits}
 use Rattle.poly.proofs.Interleaving.{place-lt}
+use Rattle.linear.specs.inner.Combinations.{rowsFrom, ZeroOn, Padded, Eliminated}
+use Rattle.points.proofs.Passing.{place-bound}
 use Rattle.code.specs.Recovered.{Reading, reading, answerOf, nothing, message, several}
 use Rattle.code.specs.Terms.{size}
 use Rattle.code.specs.Word.{wordOf}
 use Rattle.code.specs.inner.Grid.{gather, orderAtMost}
 use Rattle.code.specs.inner.Recovering.{BrokenOver}
+use Rattle.code.proofs.Stages.{columns-short}
 use Rattle.recovery.specs.inner.Indicators.{blocksOf}
 use Rattle.recovery.specs.inner.Gaps.{Gap, gapsOf, heavy, GapGrids, IndicatorRows, KnownGrid, restAnswer}
-use Rattle.code.proofs.Stages.{columns-short}
-use Rattle.code.proofs.Passing.{place-bound}
 use Rattle.recovery.proofs.GapRows.{gaps-listed, rows-grids, rows-padded}
 use Rattle.recovery.proofs.GapReadings.{light, not-light, gaps-nothing, gaps-several, gaps-message}
 

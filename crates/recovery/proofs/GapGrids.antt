@@ -22,29 +22,28 @@ use Rattle.poly.specs.Messages.{Vector, all}
 use Rattle.poly.specs.Sets.{ListOf}
 use Rattle.poly.specs.inner.Linear.{entry, dot}
 use Rattle.poly.specs.inner.Polynomials.{value}
-use Rattle.linear.specs.inner.Combinations.{Family, combined, ZeroOn, zeroOn, solutions, Symbols}
 use Rattle.poly.proofs.Lists.{mem-getD, getD-mem, nodup-getD, oneIf-le}
-use Rattle.poly.proofs.Messages.{tabulate, length-tabulate, getD-tabulate, vector-tabulate, vector-below, vector-ext}
-use Rattle.poly.proofs.Messages.{mem-all, of-mem-all, nodup-all}
+use Rattle.poly.proofs.Messages.{tabulate, length-tabulate, getD-tabulate, vector-tabulate, vector-below, vector-ext, mem-all, of-mem-all, nodup-all}
 use Rattle.poly.proofs.Values.{value-cong}
 use Rattle.poly.proofs.Linear.{dot-lt, dot-local}
 use Rattle.poly.proofs.Interleaving.{place-lt}
 use Rattle.poly.proofs.Counting.{count-bijection}
+use Rattle.linear.specs.inner.Combinations.{Family, combined, ZeroOn, zeroOn, solutions, Symbols}
 use Rattle.linear.proofs.Combinations.{of-zeroOn, to-zeroOn, combined-lt, value-combined}
+use Rattle.points.specs.inner.Columns.{columnY}
 use Rattle.code.specs.Terms.{size}
 use Rattle.code.specs.Word.{wordOf}
 use Rattle.code.specs.inner.Grid.{weightOf, gather, orderAtMost}
 use Rattle.code.specs.Fitting.{fits}
-use Rattle.code.specs.inner.Columns.{columnY}
 use Rattle.code.specs.inner.Readable.{WordOver, GridOf}
 use Rattle.code.specs.inner.Recovering.{BrokenOver}
-use Rattle.recovery.specs.inner.Gaps.{gridAt, Gap, known, GapGrids, heavy}
-use Rattle.code.proofs.Columns.{word-length}
+use Rattle.code.proofs.WordColumns.{word-length}
 use Rattle.code.proofs.Rows.{word-dot}
 use Rattle.code.proofs.Order.{within-of, of-within}
 use Rattle.code.proofs.Fitting.{of-fits, to-fits}
 use Rattle.code.proofs.Readings.{Fitting}
 use Rattle.code.proofs.WordGrids.{grid-word, has-word, only-gathered, only-within}
+use Rattle.recovery.specs.inner.Gaps.{gridAt, Gap, known, GapGrids, heavy}
 
 -- the grid of a combination takes the combination of the values
 grid-combined : (q : ℕ) (columns : List ℕ) (e : ℕ) (S : Family) (u : ℕ → ℕ) (t s : ℕ)

@@ -15,21 +15,21 @@ use Rattle.poly.specs.Lists.{count}
 use Rattle.poly.specs.Messages.{all}
 use Rattle.poly.specs.Sets.{ListOf}
 use Rattle.poly.specs.inner.Linear.{entry}
-use Rattle.linear.specs.inner.Combinations.{Family, combined, ZeroOn, solutions, Padded, Eliminated}
 use Rattle.poly.proofs.Messages.{getD-tabulate}
+use Rattle.linear.specs.inner.Combinations.{Family, combined, ZeroOn, solutions, Padded, Eliminated}
 use Rattle.linear.proofs.Combinations.{zero-wider, zero-narrower, solutions-wider}
 use Rattle.linear.proofs.Pivots.{solutions-all, solutions-no, combined-left, solution}
+use Rattle.points.proofs.Passing.{at-place}
 use Rattle.code.specs.Terms.{isTerm, weights, size}
 use Rattle.code.specs.Word.{wordOf}
 use Rattle.code.specs.inner.Grid.{weightOf, entryOf, gather, orderAtMost}
 use Rattle.code.specs.Fitting.{fits, fitting}
 use Rattle.code.specs.Recovered.{nothing, message, several, read, reading}
 use Rattle.code.specs.inner.Recovering.{BrokenOver}
-use Rattle.recovery.specs.inner.Gaps.{Gap, GapGrids, heavy}
-use Rattle.code.proofs.Passing.{at-place}
 use Rattle.code.proofs.GridEntries.{length-gather, gather-number}
 use Rattle.code.proofs.Order.{within-of, of-within}
 use Rattle.code.proofs.Readings.{Fitting, length-fitting, reading-message, reading-several}
+use Rattle.recovery.specs.inner.Gaps.{Gap, GapGrids, heavy}
 use Rattle.recovery.proofs.GapGrids.{gridWith, atGaps, gathered-fits, gaps-zero, gathered-again, fitting-solutions}
 
 reading-none : (Q k : ℕ) (word : List ℕ → List ℕ) (broken : List ℕ) → count (fits word broken) (all Q k) ≡ 0 → reading Q k word broken ≡ nothing

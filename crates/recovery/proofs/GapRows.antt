@@ -12,14 +12,14 @@ use lib.ListN.{length}
 use Rattle.poly.specs.Lists.{oneIf}
 use Rattle.poly.specs.Sets.{ListOf}
 use Rattle.poly.specs.inner.Linear.{entry}
-use Rattle.linear.specs.inner.Combinations.{rowsFrom, Padded}
 use Rattle.poly.proofs.Lists.{mem-getD}
 use Rattle.poly.proofs.Blocks.{block-of}
-use Rattle.code.specs.Passing.{passing}
-use Rattle.code.specs.inner.Columns.{Columns}
-use Rattle.recovery.specs.inner.Gaps.{Gap, gapsOf, GapGrids, IndicatorRows, KnownGrid}
+use Rattle.linear.specs.inner.Combinations.{rowsFrom, Padded}
+use Rattle.points.specs.Passing.{passing}
+use Rattle.points.specs.inner.Columns.{Columns}
+use Rattle.points.proofs.Passing.{place-lt, passing-at, of-mem-passing, nodup-passing}
 use Rattle.code.proofs.Weights.{curve-pos}
-use Rattle.code.proofs.Passing.{place-lt, passing-at, of-mem-passing, nodup-passing}
+use Rattle.recovery.specs.inner.Gaps.{Gap, gapsOf, GapGrids, IndicatorRows, KnownGrid}
 use Rattle.recovery.proofs.PointGrids.{point-values}
 
 pub gaps-listed : (broken : List ℕ) → ListOf (Gap broken) (gapsOf broken)

@@ -33,9 +33,9 @@ use Rattle.poly.proofs.LaneLaws.{lanes-at, lanes-below}
 use Rattle.poly.proofs.Multiples.{length-stored, stored-in}
 use Rattle.poly.proofs.Parts.{length-part, put-is, length-put, put-in, put-high, below-back}
 use Rattle.poly.proofs.Writes.{writes-in, writes-out, below-writes}
+use Rattle.points.proofs.Places.{quotient, remainder}
 use Rattle.recovery.specs.inner.Gaps.{pointTerm}
 use Rattle.recovery.specs.inner.Indicators.{blocksOf, YFactors, XPowers, BlocksWritten}
-use Rattle.code.proofs.Weights.{quotient, remainder}
 
 -- ---- the tables
 

@@ -22,11 +22,11 @@ use Rattle.poly.specs.inner.Ranges.{Below, Blocks, part, put}
 use Rattle.poly.specs.inner.Linear.{entry}
 use Rattle.poly.proofs.Blocks.{block-fits}
 use Rattle.poly.proofs.Parts.{length-part, part-at, put-is, length-put, put-low, put-in, put-high, below-back}
-use Rattle.code.specs.Passing.{passing}
-use Rattle.code.specs.inner.Columns.{columnY}
+use Rattle.points.specs.Passing.{passing}
+use Rattle.points.specs.inner.Columns.{columnY}
+use Rattle.points.proofs.Passing.{place, passing-true, passing-false, place-true, place-bound}
 use Rattle.recovery.specs.inner.Gaps.{pointTerm, gapsOf, known, heavy, IndicatorRows}
 use Rattle.recovery.specs.inner.Indicators.{blocksOf}
-use Rattle.code.proofs.Passing.{place, passing-true, passing-false, place-true, place-bound}
 
 -- ---- the word with 0 at its gaps
 

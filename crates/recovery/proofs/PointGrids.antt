@@ -22,14 +22,15 @@ use Rattle.poly.specs.inner.Indicators.{indicator}
 use Rattle.poly.proofs.Lists.{mem-getD, nodup-getD}
 use Rattle.poly.proofs.Values.{value-cong, value-scale}
 use Rattle.poly.proofs.Indicators.{indicator-here, indicator-there}
-use Rattle.code.specs.Points.{ysOf}
-use Rattle.code.specs.inner.Columns.{Columns, columnY}
-use Rattle.recovery.specs.inner.Gaps.{gridAt, pointTerm}
-use Rattle.code.proofs.Weights.{curve-pos, quotient, remainder}
-use Rattle.code.proofs.Columns.{length-ys}
-use Rattle.code.proofs.Points.{of-mem-ys, nodup-ys}
+use Rattle.points.specs.Points.{ysOf}
+use Rattle.points.specs.inner.Columns.{Columns, columnY}
+use Rattle.points.proofs.Places.{quotient, remainder}
+use Rattle.points.proofs.ColumnPoints.{length-ys}
+use Rattle.points.proofs.Points.{of-mem-ys, nodup-ys}
+use Rattle.code.proofs.Weights.{curve-pos}
 use Rattle.code.proofs.Stages.{ys-below, columns-below}
 use Rattle.code.proofs.SymbolPowers.{power-size}
+use Rattle.recovery.specs.inner.Gaps.{gridAt, pointTerm}
 
 -- q·q is even
 half-square : (q : ℕ) → IsCurve q → (h : ℕ) × (q * q ≡ h + h) × (1 ≤ h)

@@ -12,19 +12,18 @@ ghost use Rattle.poly.specs.inner.Ranges.{Below, writes};
 ghost use Rattle.poly.specs.inner.Linear.{entry};
 ghost use Rattle.linear.specs.inner.Combinations.{rowsFrom, Eliminated};
 ghost use Rattle.linear.specs.inner.Eliminating.{Table};
+ghost use Rattle.points.specs.Points.{columnsOf};
+ghost use Rattle.points.specs.inner.Columns.{Ys};
 ghost use Rattle.code.specs.Terms.{size};
 ghost use Rattle.code.specs.inner.Recovering.{BrokenOver};
-ghost use Rattle.code.specs.Points.{columnsOf};
-ghost use Rattle.code.specs.inner.Columns.{Ys};
-ghost use Rattle.recovery.specs.inner.Indicators.{blocksOf, YFactors, XPowers};
-ghost use Rattle.recovery.specs.inner.Gaps.{gapsOf, known, heavy, IndicatorRows, KnownGrid, restAnswer};
 ghost use Rattle.code.specs.Word.{wordOf};
 ghost use Rattle.code.specs.Answers.{answered};
 ghost use Rattle.code.specs.Recovered.{reading, answerOf, recovered};
 ghost use Rattle.code.specs.RecoveredLong.{workLength, recoveredLong, KeptUnlessWorked};
+ghost use Rattle.recovery.specs.inner.Indicators.{blocksOf, YFactors, XPowers};
+ghost use Rattle.recovery.specs.inner.Gaps.{gapsOf, known, heavy, IndicatorRows, KnownGrid, restAnswer};
 use code::check;
 use code::grid;
-use code::point;
 use code::term;
 use code::unencoding;
 use field::Outcome;
@@ -114,7 +113,7 @@ fn write_short_indicators(q: u8, columns: &[u8], word: &[u8], vectors: &mut [u8]
 {
     let factors = indicator::y_factors(q);
     let powers = indicator::x_powers(q);
-    let ys = point::ys(q);
+    let ys = points::ys(q);
     write_indicators(q, &factors, &powers, &ys, columns, word, 64, vectors)
 }
 
@@ -127,7 +126,7 @@ fn write_long_indicators(columns: &[u8], word: &[u8], vectors: &mut [u8]) -> usi
 {
     let factors = indicator::long_y_factors();
     let powers = indicator::long_x_powers();
-    let ys = point::long_ys();
+    let ys = points::long_ys();
     write_indicators(8, &factors, &powers, &ys, columns, word, 512, vectors)
 }
 
@@ -227,7 +226,7 @@ pub fn recover_over(
     ensures { λ r. ⌜ answerOf (reading (fieldOf q .size) (size q m) (wordOf q (columnsOf q) m) (now (word .entry))) (now (message .entry))
         ≡ answered r (now (message .exit)) ⌝ }
 {
-    let columns = point::columns();
+    let columns = points::columns();
     let width = q as usize;
     let c = width * width;
     let mut vectors = [0u8; 4096];
@@ -243,7 +242,7 @@ fn recover_long_over(m: usize, word: &[u8], message: &mut [u8], work: &mut [u8])
     ensures { λ r. ⌜ answerOf (reading (fieldOf 8 .size) (size 8 m) (wordOf 8 (columnsOf 8) m) (now (word .entry))) (now (message .entry))
         ≡ answered r (now (message .exit)) ⌝ }
 {
-    let columns = point::long_columns();
+    let columns = points::long_columns();
     rows::clear(work);
     let count = write_long_indicators(&columns, word, work);
     let mut grid = known_long_grid(word);

@@ -11,12 +11,12 @@ use Rattle.field.proofs.Curves.{sizes, two-symbols}
 use Rattle.poly.specs.Sets.{ListOf, Alone, TwoOrMore, Exactly}
 use Rattle.poly.proofs.Lists.{getD-map}
 use Rattle.poly.proofs.Sets.{list-iff}
-use Rattle.code.specs.Points.{columnsOf}
+use Rattle.linear.proofs.Elimination.{PowerOrNone}
+use Rattle.points.specs.Points.{columnsOf}
 use Rattle.code.specs.Terms.{size}
 use Rattle.code.specs.Word.{wordOf}
 use Rattle.code.specs.Fitting.{fitting}
 use Rattle.code.specs.Recovered.{nothing, message, several, reading}
-use Rattle.linear.proofs.Elimination.{PowerOrNone}
 use Rattle.code.proofs.Readings.{Fitting, fitting-list, length-fitting, reads-nothing, reads-message, reads-several}
 use Rattle.code.proofs.Recoveries.{readingOf}
 use Rattle.code.proofs.Facts.{Broken, facts}

@@ -25,8 +25,7 @@ use Rattle.session.specs.declared.Reply.{Reply}
 use Rattle.session.specs.Opened.{opened}
 use Rattle.session.specs.Arrived.{conflictAsMissing, stored, merged, arrivalChecks, reply, withStored, arrived}
 use Rattle.session.specs.ReferenceModel.{Place, missing, symbol, conflict, Model, emptyModel, updated, inRange, accepts, afterArrival}
-use Rattle.session.proofs.Arrivals.{opened-outcome, opened-done, ValuesChecked, checks-place, checks-symbol, checks-done}
-use Rattle.session.proofs.Arrivals.{no-conflict, arrived-refused, arrived-merged}
+use Rattle.session.proofs.Arrivals.{opened-outcome, opened-done, ValuesChecked, checks-place, checks-symbol, checks-done, no-conflict, arrived-refused, arrived-merged}
 
 -- ---- one place
 

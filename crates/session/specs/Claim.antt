@@ -8,7 +8,7 @@ use lib.ListN.{length, getD}
 use Rattle.field.specs.Outcomes.{Says}
 use Rattle.poly.specs.Messages.{Vector}
 use Rattle.poly.specs.Sets.{Alone, TwoOrMore, Exactly}
-use Rattle.code.specs.Points.{columnsOf}
+use Rattle.points.specs.Points.{columnsOf}
 use Rattle.code.specs.Terms.{size}
 use Rattle.code.specs.Word.{wordOf}
 use Rattle.code.specs.Answers.{Answer}

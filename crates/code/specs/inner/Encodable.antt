@@ -7,8 +7,8 @@ use Rattle.field.specs.Curve.{IsCurve}
 use Rattle.field.proofs.Fields.{fieldOf}
 use Rattle.poly.specs.inner.Polynomials.{value}
 use Rattle.poly.specs.inner.Ranges.{Below, Blocks}
+use Rattle.points.specs.inner.Columns.{Columns, columnY}
 use Rattle.code.specs.Terms.{size}
-use Rattle.code.specs.inner.Columns.{Columns, columnY}
 
 -- a message of order m, and room for its word over the columns
 pub record Encodable (q : ℕ) (columns : List ℕ) (m : ℕ) (message word : List ℕ) : Type 0 where

@@ -5,7 +5,7 @@ use mathlib.Core.Path.{_≡_}
 use Prim.Native.Nat.{ℕ, zero, suc, _+_, _-_, _*_, _%_}
 use lib.Dec.{leb, eqb}
 use lib.ListN.{length, getD, set, replicate}
-use Rattle.code.specs.Passing.{passing}
+use Rattle.points.specs.Passing.{passing}
 use Rattle.code.specs.Terms.{isTerm, weights}
 
 -- the weight of entry e, and the entry of weight w

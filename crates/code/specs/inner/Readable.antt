@@ -6,17 +6,17 @@ use mathlib.Core.Path.{_≡_}
 use Prim.Native.Nat.{ℕ, _+_, _*_, _≤_, _<_}
 use lib.ListN.{length, getD}
 use Rattle.field.proofs.Fields.{fieldOf}
+use Rattle.field.specs.declared.outcome.Outcome.the-variants.{Done, NoMessage}
 use Rattle.poly.specs.inner.Ranges.{Below}
 use Rattle.poly.specs.inner.Polynomials.{value}
 use Rattle.poly.proofs.Interpolants.{at-column}
-use Rattle.code.specs.Points.{columnsOf}
+use Rattle.points.specs.Points.{columnsOf}
+use Rattle.points.specs.inner.Columns.{Columns, columnY}
 use Rattle.code.specs.Terms.{size}
 use Rattle.code.specs.Word.{wordOf}
 use Rattle.code.specs.Fitting.{fitting}
-use Rattle.field.specs.declared.outcome.Outcome.the-variants.{Done, NoMessage}
 use Rattle.code.specs.inner.Grid.{gather, orderAtMost}
 use Rattle.code.specs.Answers.{Answer, answered}
-use Rattle.code.specs.inner.Columns.{Columns, columnY}
 use Rattle.code.specs.Unencoded.{theMessage}
 
 -- ---- the two stages

@@ -12,7 +12,7 @@ use Rattle.poly.specs.Messages.{Vector}
 use Rattle.poly.specs.inner.Linear.{entry}
 use Rattle.linear.specs.inner.Systems.{flat, rank, WellFormed}
 use Rattle.code.specs.Terms.{size}
-use Rattle.code.specs.inner.Recovering.{FitsBelow, Collected}
+use Rattle.equations.specs.inner.Collecting.{FitsBelow, Collected}
 use Rattle.job.specs.declared.bringing.Progress.{Progress}
 use Rattle.job.specs.declared.Job.{Job}
 use Rattle.job.specs.declared.Reply.{Reply}

@@ -6,13 +6,13 @@ use native.Mathlib.Omega.{arith}
 use borrow.Author.Needs.{needs}
 use denote.Ref.{now}
 use lib.ListN.{length}
-use Rattle.code.specs.Points.{columnsOf}
-use Rattle.code.specs.Word.{wordOf}
-use Rattle.code.proofs.Collecting.{copied}
-use Rattle.mend.specs.Mended.{differing, marksOf}
-use Rattle.mend.proofs.Menders.{Passed}
+use Rattle.poly.proofs.Entries.{copied}
 use Rattle.poly.proofs.Multiples.{stored-all}
 use Rattle.poly.proofs.Fronts.{lent-long, front-long, array-long, front-fits, front-again, again-long}
+use Rattle.points.specs.Points.{columnsOf}
+use Rattle.code.specs.Word.{wordOf}
+use Rattle.mend.specs.Mended.{differing, marksOf}
+use Rattle.mend.proofs.Menders.{Passed}
 use Rattle.mend.proofs.Answering.{passed, word-short, only-encodable, answered-far, count-small, answered-near}
 use Rattle.mend.proofs.write_near.Statement.{statement}
 use Rattle.mend.proofs.write_near.Tie as tie

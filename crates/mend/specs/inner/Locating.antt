@@ -12,8 +12,8 @@ use Rattle.field.proofs.Fields.{fieldOf}
 use Rattle.poly.specs.inner.Linear.{dot}
 use Rattle.poly.specs.Messages.{Vector}
 use Rattle.linear.specs.inner.Systems.{flat, Satisfies, WellFormed}
+use Rattle.points.specs.Points.{columnsOf}
 use Rattle.code.specs.inner.Grid.{weightOf}
-use Rattle.code.specs.Points.{columnsOf}
 use Rattle.code.specs.inner.Rows.{rowOf}
 use Rattle.code.specs.Terms.{size}
 use Rattle.code.specs.Word.{wordOf}

@@ -8,10 +8,10 @@ use lib.ListN.{length, getD}
 use Rattle.field.specs.Plus.{plus}
 use Rattle.field.proofs.Fields.{fieldOf}
 use Rattle.poly.specs.inner.Ranges.{Below, part}
-use Rattle.code.specs.Points.{ysOf}
+use Rattle.points.specs.Points.{ysOf}
 use Rattle.code.specs.Terms.{xPower, yPower, weights, size}
 use Rattle.code.specs.inner.Readable.{gridValue}
-use Rattle.code.specs.inner.Recovering.{termAt}
+use Rattle.code.specs.inner.Rows.{termAt}
 
 -- the x and the y of place p
 abbrev pub xAt : ℕ → List ℕ → ℕ → ℕ

@@ -5,7 +5,7 @@ use borrow.Author.Needs.{needs}
 use denote.Ref.{now}
 use lib.ListN.{length}
 use Rattle.field.proofs.Curves.{long-curve}
-use Rattle.code.proofs.FullColumns.{full-places}
+use Rattle.points.proofs.ColumnPoints.{full-places}
 use Rattle.recovery.proofs.KnownGrids.{filled-over, known-grid}
 use Rattle.recovery.proofs.known_long_grid.Statement.{statement}
 use Rattle.recovery.proofs.known_long_grid.Tie as tie

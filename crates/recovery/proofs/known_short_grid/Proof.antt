@@ -6,7 +6,7 @@ use Prim.Native.Nat.{ℕ, _≤_}
 use denote.Ref.{now}
 use lib.ListN.{length}
 use Rattle.poly.proofs.Fronts.{lent-long, front-fits, front-again, again-long}
-use Rattle.code.specs.Points.{columnsOf}
+use Rattle.points.specs.Points.{columnsOf}
 use Rattle.code.specs.inner.Readable.{WordOver, GridInFront}
 use Rattle.recovery.proofs.KnownGrids.{filled-over, known-grid}
 use Rattle.recovery.proofs.GapAnswers.{short-places}

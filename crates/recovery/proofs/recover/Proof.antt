@@ -10,8 +10,8 @@ use Rattle.field.specs.Curve.{isShort, IsShort}
 use Rattle.field.specs.declared.curve.Curve.{Curve}
 use Rattle.field.proofs.Curves.{sizes, short-curve, short-of-true}
 use Rattle.field.specs.declared.outcome.Outcome.the-variants.{Done}
+use Rattle.points.specs.Points.{columnsOf}
 use Rattle.code.specs.Checks.{callChecks}
-use Rattle.code.specs.Points.{columnsOf}
 use Rattle.code.specs.Terms.{size}
 use Rattle.code.specs.Word.{wordOf}
 use Rattle.code.specs.Answers.{answered}

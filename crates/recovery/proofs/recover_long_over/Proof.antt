@@ -10,12 +10,12 @@ use Rattle.field.proofs.Fields.{fieldOf}
 use Rattle.field.proofs.Curves.{long-curve}
 use Rattle.poly.specs.inner.Ranges.{Below}
 use Rattle.poly.proofs.Entries.{getD-zeros}
+use Rattle.points.proofs.ColumnPoints.{length-upTo}
 use Rattle.code.specs.Recovered.{reading, answerOf}
 use Rattle.code.specs.Terms.{size}
 use Rattle.code.specs.Word.{wordOf}
-use Rattle.recovery.specs.inner.Gaps.{KnownGrid}
 use Rattle.code.specs.inner.Recovering.{BrokenOver}
-use Rattle.code.proofs.FullColumns.{length-upTo}
+use Rattle.recovery.specs.inner.Gaps.{KnownGrid}
 use Rattle.recovery.proofs.GapAnswers.{broken-0, count-le, count-fits, lent-long, lent-symbols, rest-answer}
 use borrow.Author.Needs.{needs}
 use Rattle.recovery.proofs.recover_long_over.Statement.{statement}

@@ -7,8 +7,8 @@ use native.Mathlib.Omega.{arith}
 use denote.Ref.{now}
 use lib.ListN.{length, getD}
 use Rattle.field.proofs.Curves.{sizes}
-use Rattle.code.specs.Points.{ysOf}
-use Rattle.code.proofs.Equations.{place-point}
+use Rattle.points.specs.Points.{ysOf}
+use Rattle.code.proofs.PlacePoints.{place-point}
 use Rattle.recovery.proofs.IndicatorRows.{RowsBelow, rows-none, rows-same, row-within, rows-more, rows-all}
 use Rattle.recovery.proofs.write_indicators.Statement.{statement}
 use Rattle.recovery.proofs.write_indicators.Tie as tie

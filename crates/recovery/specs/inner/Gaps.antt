@@ -7,17 +7,17 @@ use Prim.Native.Nat.{ℕ, _+_, _-_, _*_, _/_, _%_, _≤_, _<_}
 use lib.Dec.{eqb, ltb}
 use lib.ListN.{length, getD}
 use Rattle.field.proofs.Fields.{fieldOf}
+use Rattle.field.specs.declared.outcome.Outcome.the-variants.{Done, NoMessage, Several}
 use Rattle.poly.specs.Lists.{oneIf}
 use Rattle.poly.specs.inner.Ranges.{Below}
 use Rattle.poly.specs.inner.Linear.{entry}
 use Rattle.poly.specs.inner.Polynomials.{value}
 use Rattle.poly.specs.inner.Indicators.{indicator}
 use Rattle.linear.specs.inner.Combinations.{Family, Symbols}
-use Rattle.code.specs.Passing.{passing}
-use Rattle.field.specs.declared.outcome.Outcome.the-variants.{Done, NoMessage, Several}
+use Rattle.points.specs.Passing.{passing}
+use Rattle.points.specs.inner.Columns.{columnY}
 use Rattle.code.specs.Answers.{Answer, answered}
 use Rattle.code.specs.inner.Grid.{weightOf, gather, orderAtMost}
-use Rattle.code.specs.inner.Columns.{columnY}
 
 -- the polynomial whose coefficient of x^i·y^j is f (q·i + j), at the y number s of column t
 abbrev pub gridAt : ℕ → List ℕ → (ℕ → ℕ) → ℕ → ℕ → ℕ

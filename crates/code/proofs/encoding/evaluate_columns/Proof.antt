@@ -10,8 +10,8 @@ use lib.ListN.{length, getD}
 use Rattle.field.proofs.Curves.{sizes}
 use Rattle.poly.specs.inner.Ranges.{Blocks}
 use Rattle.poly.proofs.Blocks.{blocks-none, block-start, block-fits}
+use Rattle.points.proofs.YsTables.{table-fits, taken-below, taken-at}
 use Rattle.code.specs.inner.Encodable.{columnValue}
-use Rattle.code.proofs.YsTables.{table-fits, taken-below, taken-at}
 use Rattle.code.proofs.Stages.{columns-turn}
 use Rattle.code.proofs.encoding.evaluate_columns.Statement.{statement}
 use Rattle.code.proofs.encoding.evaluate_columns.Tie as tie

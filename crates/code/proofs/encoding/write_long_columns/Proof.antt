@@ -11,9 +11,9 @@ use lib.ListN.{length}
 use Rattle.field.proofs.Curves.{long-curve}
 use Rattle.poly.specs.inner.Ranges.{Blocks}
 use Rattle.poly.proofs.Blocks.{blocks-none}
-use Rattle.code.specs.inner.Encodable.{gridColumn}
 use Rattle.poly.proofs.Parts.{length-part}
-use Rattle.code.proofs.FullColumns.{length-upTo}
+use Rattle.points.proofs.ColumnPoints.{length-upTo}
+use Rattle.code.specs.inner.Encodable.{gridColumn}
 use Rattle.code.proofs.Stages.{group-staged, group-turn}
 use Rattle.code.proofs.encoding.write_long_columns.Statement.{statement}
 use Rattle.code.proofs.encoding.write_long_columns.Tie as tie

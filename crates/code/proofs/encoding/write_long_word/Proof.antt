@@ -8,9 +8,9 @@ use denote.Ref.{now}
 use lib.ListN.{length}
 use Rattle.field.proofs.Curves.{long-curve}
 use Rattle.poly.specs.inner.Ranges.{Blocks}
-use Rattle.code.specs.Points.{columnsOf}
+use Rattle.points.specs.Points.{columnsOf}
+use Rattle.points.proofs.ColumnPoints.{length-upTo, full-places}
 use Rattle.code.specs.inner.Encodable.{gridColumn}
-use Rattle.code.proofs.FullColumns.{length-upTo, full-places}
 use Rattle.code.proofs.Stages.{grid-below, grid-rows, stages}
 use Rattle.code.proofs.encoding.write_long_word.Statement.{statement}
 use Rattle.code.proofs.encoding.write_long_word.Tie as tie

@@ -11,11 +11,11 @@ use Rattle.field.proofs.Fields.{fieldOf}
 use Rattle.field.proofs.FieldLaws.{zero-lt}
 use Rattle.field.proofs.Curves.{short-sizes}
 use Rattle.poly.proofs.Entries.{below-zeros}
-use Rattle.code.specs.Points.{columnsOf}
+use Rattle.points.specs.Points.{columnsOf}
+use Rattle.points.proofs.AllColumns.{columns-are, columns-fit, columns-long}
 use Rattle.code.specs.Word.{wordOf}
 use Rattle.code.specs.inner.Grid.{scatter}
 use Rattle.code.specs.inner.Encodable.{Encodable}
-use Rattle.code.proofs.AllColumns.{columns-are, columns-fit, columns-long}
 use Rattle.code.proofs.Stages.{columns-short, columns-below, columns-grid, stages, encodable-word}
 use Rattle.code.proofs.encoding.write_word.Statement.{statement}
 use Rattle.code.proofs.encoding.write_word.Tie as tie

@@ -3,7 +3,7 @@
 use mathlib.Core.Path.{sym, subst}
 use Prim.Native.Nat.{ℕ}
 use borrow.Author.Needs.{needs}
-use Rattle.code.specs.inner.Columns.{PaddedYs}
+use Rattle.points.specs.inner.Columns.{PaddedYs}
 use Rattle.code.proofs.Stages.{not-long-short}
 use Rattle.code.proofs.unencoding.interpolate_in_y.Statement.{statement}
 use Rattle.code.proofs.unencoding.interpolate_in_y.Tie as tie

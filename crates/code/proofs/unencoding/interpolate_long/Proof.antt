@@ -11,8 +11,8 @@ use Rattle.field.proofs.Curves.{long-curve}
 use Rattle.field.proofs.Fields.{fieldOf}
 use Rattle.poly.specs.inner.Interpolation.{VanishingTree}
 use Rattle.poly.proofs.Entries.{getD-zeros}
+use Rattle.points.proofs.ColumnPoints.{length-upTo}
 use Rattle.code.specs.inner.Readable.{WordOver, GridInFront}
-use Rattle.code.proofs.FullColumns.{length-upTo}
 use Rattle.code.proofs.Stages.{short-narrow}
 use Rattle.code.proofs.WordGrids.{joinable, grid-of, grid-copied}
 use Rattle.code.proofs.unencoding.interpolate_long.Statement.{statement}

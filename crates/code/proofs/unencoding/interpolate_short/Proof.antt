@@ -14,10 +14,10 @@ use Rattle.field.proofs.Fields.{fieldOf}
 use Rattle.poly.specs.inner.Interpolation.{VanishingTree, Joinable, Interpolated}
 use Rattle.poly.proofs.Entries.{zeros, getD-zeros, take-zeros}
 use Rattle.poly.proofs.Fronts.{lent-long, front-fits, front-again, again-long, part-is, part-fits}
-use Rattle.code.specs.Points.{columnsOf}
+use Rattle.points.specs.Points.{columnsOf}
+use Rattle.points.proofs.AllColumns.{columns-are, columns-fit}
+use Rattle.points.proofs.ColumnPoints.{length-upTo}
 use Rattle.code.specs.inner.Readable.{WordOver, GridOf, GridInFront}
-use Rattle.code.proofs.AllColumns.{columns-are, columns-fit}
-use Rattle.code.proofs.FullColumns.{length-upTo}
 use Rattle.code.proofs.Stages.{columns-short, short-narrow}
 use Rattle.code.proofs.WordGrids.{word-fits, joinable, grid-of, grid-copied}
 use Rattle.code.proofs.unencoding.interpolate_short.Statement.{statement}

@@ -3,8 +3,8 @@ use mathlib.Core.Path.{sym, _∙_}
 use borrow.Author.Needs.{needs}
 use denote.Ref.{now}
 use Rattle.field.proofs.Curves.{long-curve}
-use Rattle.code.specs.Points.{columnsOf}
-use Rattle.code.proofs.FullColumns.{full-places}
+use Rattle.points.specs.Points.{columnsOf}
+use Rattle.points.proofs.ColumnPoints.{full-places}
 use Rattle.code.proofs.WordGrids.{whole-grid, read-answer}
 use Rattle.code.proofs.unencoding.read_long_word.Statement.{statement}
 use Rattle.code.proofs.unencoding.read_long_word.Tie as tie

@@ -6,7 +6,7 @@ use borrow.Author.Needs.{needs}
 use denote.Ref.{now}
 use lib.ListN.{length, take}
 use lib.Seq.{length-take-le}
-use Rattle.code.specs.Points.{columnsOf}
+use Rattle.points.specs.Points.{columnsOf}
 use Rattle.code.proofs.Stages.{columns-short}
 use Rattle.code.proofs.WordGrids.{front-grid, read-answer}
 use Rattle.code.proofs.unencoding.read_word.Statement.{statement}

@@ -9,7 +9,7 @@ use lib.ListN.{length}
 use Rattle.field.specs.Curve.{IsCurve, IsShort}
 use Rattle.field.specs.declared.outcome.Outcome.the-variants.{Done}
 use Rattle.field.proofs.Curves.{curve-of-true}
-use Rattle.code.specs.Points.{columnsOf}
+use Rattle.points.specs.Points.{columnsOf}
 use Rattle.code.specs.Terms.{size}
 use Rattle.code.specs.Checks.{callChecks}
 use Rattle.code.specs.inner.Readable.{Readable, readOver}

@@ -17,9 +17,7 @@ use Rattle.job.specs.Task.{storedWord, taskOf}
 use Rattle.job.specs.inner.Bringing.{Tested}
 use Rattle.job.proofs.Openings.{open-curve}
 use Rattle.job.proofs.Calls.{carried-room}
-use Rattle.job.proofs.Carrying.{Given, Left, sound-tested, places-fit, candidate-fits, whole-fits, asked, short, next-fits, rows-fit}
-use Rattle.job.proofs.Carrying.{candidate-again, copy-fits, copies}
-use Rattle.job.proofs.Carrying.{sound-after, gives-message, gives-other, writes-message}
+use Rattle.job.proofs.Carrying.{Given, Left, sound-tested, places-fit, candidate-fits, whole-fits, asked, short, next-fits, rows-fit, candidate-again, copy-fits, copies, sound-after, gives-message, gives-other, writes-message}
 use Rattle.job.proofs.Tellings.{not-refused}
 use Rattle.job.proofs.Job.carry_on.Statement.{statement}
 use Rattle.job.proofs.Job.carry_on.Tie as tie

@@ -11,13 +11,13 @@ use Rattle.field.proofs.Fields.{fieldOf}
 use Rattle.poly.specs.inner.Linear.{entry}
 use Rattle.linear.specs.inner.Systems.{flat, rank}
 use Rattle.linear.proofs.Solutions.{rank-le, rank-full, solves-vector}
-use Rattle.code.specs.Points.{columnsOf}
+use Rattle.points.specs.Points.{columnsOf}
+use Rattle.points.proofs.ColumnPoints.{full-places}
 use Rattle.code.specs.Terms.{size}
-use Rattle.code.proofs.FullColumns.{full-places, size-short}
+use Rattle.code.proofs.FullColumns.{size-short}
 use Rattle.job.specs.inner.Bringing.{Collects, Compared}
 use Rattle.job.proofs.Advancing.{counted-on}
-use Rattle.job.proofs.Standings.{stands-none, stands-only, stands-collected, usable-message, usable-formed}
-use Rattle.job.proofs.Standings.{only-solution, brings-clash, brings-only, brings-fewer}
+use Rattle.job.proofs.Standings.{stands-none, stands-only, stands-collected, usable-message, usable-formed, only-solution, brings-clash, brings-only, brings-fewer}
 use Rattle.job.proofs.bringing.bring.Statement.{statement}
 use Rattle.job.proofs.bringing.bring.Tie as tie
 

@@ -12,8 +12,8 @@ use Rattle.field.proofs.Fields.{fieldOf}
 use Rattle.linear.proofs.Solutions.{rank-le}
 use Rattle.linear.specs.inner.Systems.{flat}
 use Rattle.code.specs.Terms.{size}
-use Rattle.code.specs.inner.Recovering.{Advanced}
 use Rattle.code.proofs.GridEntries.{length-entries}
+use Rattle.equations.specs.inner.Collecting.{Advanced}
 use native.Mathlib.Nat.{mul-le-mul-left}
 use Rattle.job.specs.inner.Bringing.{Counted, Collecting}
 use Rattle.job.proofs.Advancing.{counted-none, counted-gap, counted-symbol, collecting-none, collecting-gap, collecting-step, collects-clash}

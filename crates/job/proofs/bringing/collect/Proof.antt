@@ -10,10 +10,10 @@ use lib.ListN.{take, replicate}
 use lib.Seq.{length-take-le}
 use Rattle.field.specs.declared.curve.Curve.{Curve}
 use Rattle.linear.specs.inner.Systems.{flat, rank}
-use Rattle.code.specs.Points.{columnsOf}
+use Rattle.points.specs.Points.{columnsOf}
+use Rattle.points.proofs.AllColumns.{columns-are, columns-fit, columns-long}
 use Rattle.code.specs.Terms.{size}
 use Rattle.code.specs.inner.Recovering.{BrokenOver}
-use Rattle.code.proofs.AllColumns.{columns-are, columns-fit, columns-long}
 use Rattle.code.proofs.GridEntries.{entries-taken}
 use Rattle.code.proofs.Stages.{columns-short}
 use Rattle.job.specs.inner.Bringing.{Collects}

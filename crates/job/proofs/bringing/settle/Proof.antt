@@ -9,9 +9,9 @@ use Rattle.field.proofs.Curves.{short-curve, short-not-long}
 use Rattle.field.proofs.Fields.{fieldOf}
 use Rattle.linear.specs.inner.Systems.{flat, WellFormed, Solution, Solves}
 use Rattle.linear.proofs.Substitution.{solves-full}
+use Rattle.points.proofs.ColumnPoints.{full-columns, full-places, length-upTo}
 use Rattle.code.specs.Terms.{size}
-use Rattle.code.proofs.Collecting.{solution-below}
-use Rattle.code.proofs.FullColumns.{full-columns, full-places, length-upTo}
+use Rattle.equations.proofs.Collecting.{solution-below}
 use Rattle.job.proofs.bringing.settle.Statement.{statement}
 use Rattle.job.proofs.bringing.settle.Tie as tie
 

@@ -12,16 +12,16 @@ use Rattle.field.proofs.Outcomes.{not-done}
 use Rattle.field.proofs.Curves.{sizes, short-curve, short-sizes}
 use Rattle.field.proofs.Fields.{fieldOf}
 use Rattle.poly.proofs.Entries.{zeros}
+use Rattle.poly.proofs.Fronts.{front-fits, front-again, again-long}
+use Rattle.points.specs.Points.{columnsOf}
 use Rattle.code.specs.Answers.{answered}
-use Rattle.code.specs.Points.{columnsOf}
 use Rattle.code.specs.Recovered.{answerOf, reading}
 use Rattle.code.specs.Terms.{size}
 use Rattle.code.specs.Word.{wordOf}
 use Rattle.code.specs.inner.Recovering.{BrokenOver}
-use Rattle.recovery.proofs.GapAnswers.{broken-0}
 use Rattle.code.proofs.Recoveries.{readingOf}
+use Rattle.recovery.proofs.GapAnswers.{broken-0}
 use Rattle.mend.specs.inner.Locating.{reach, Erased}
-use Rattle.poly.proofs.Fronts.{front-fits, front-again, again-long}
 use Rattle.mend.proofs.Erasing.{locator-encodable, erased-front, erased-broken}
 use Rattle.mend.proofs.Candidates.{recovered-only, recovered-none}
 use Rattle.mend.proofs.candidate.read_rest.Statement.{statement}

@@ -11,8 +11,8 @@ use Rattle.field.proofs.Curves.{short-curve, short-sizes}
 use Rattle.poly.proofs.Entries.{zeros}
 use Rattle.poly.proofs.Multiples.{stored-all}
 use Rattle.poly.proofs.Parts.{length-part}
-use Rattle.code.specs.Points.{columnsOf}
-use Rattle.code.proofs.FullColumns.{length-upTo, full-columns, full-places}
+use Rattle.points.specs.Points.{columnsOf}
+use Rattle.points.proofs.ColumnPoints.{length-upTo, full-columns, full-places}
 use Rattle.mend.specs.inner.Products.{Multiples}
 use Rattle.mend.proofs.ProductBlocks.{Multiplying, multiplying-none, multiplying-more}
 use Rattle.mend.proofs.product.write_multiples.Statement.{statement}

@@ -8,8 +8,8 @@ use lib.ListN.{length}
 use Rattle.field.specs.Curve.{IsCurve}
 use Rattle.field.proofs.Curves.{short-curve, short-sizes}
 use Rattle.poly.proofs.Parts.{length-part}
-use Rattle.code.specs.Points.{columnsOf}
-use Rattle.code.proofs.FullColumns.{length-upTo, full-columns, full-places}
+use Rattle.points.specs.Points.{columnsOf}
+use Rattle.points.proofs.ColumnPoints.{length-upTo, full-columns, full-places}
 use Rattle.mend.specs.inner.Products.{Products}
 use Rattle.mend.proofs.ProductGrids.{full-word, takes-grid, product-start}
 use Rattle.mend.proofs.ProductBlocks.{block-before, one-part, Producing, producing-none, producing-more}

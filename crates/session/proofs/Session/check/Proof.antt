@@ -13,8 +13,7 @@ use Rattle.field.proofs.Curves.{short-curve, short-sizes, short-of-true}
 use Rattle.field.specs.declared.outcome.Outcome.the-variants.{Done}
 use Rattle.code.specs.Checks.{orderChecks, valueCheck}
 use Rattle.code.proofs.Checks.{order-done}
-use Rattle.session.proofs.Arrivals.{reads, read-room, ValuesChecked}
-use Rattle.session.proofs.Arrivals.{checks-order, checks-value, checks-place, checks-symbol, checks-done}
+use Rattle.session.proofs.Arrivals.{reads, read-room, ValuesChecked, checks-order, checks-value, checks-place, checks-symbol, checks-done}
 use Rattle.session.proofs.Session.check.Statement.{statement}
 use Rattle.session.proofs.Session.check.Tie as tie
 

@@ -1,0 +1,3 @@
+pub mod Equations
+pub mod Collecting
+pub mod ReadingSystems

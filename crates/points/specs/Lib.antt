@@ -1,0 +1,4 @@
+pub mod Passing
+pub mod Points
+pub mod PointTable
+pub mod inner

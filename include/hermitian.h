@@ -1,13 +1,14 @@
 /*
- * Hermitian block code of the strap link: the five entries that C calls.
+ * Hermitian block code of the strap link: the six entries that C calls.
  *
  * The library turns a message of k symbols into a word of n symbols (a codeword:
- * values of a polynomial at the n points of a Hermitian curve), reads whole words
- * back, recovers messages from words with missing symbols, and mends whole words
- * with wrong symbols. It is written and proved in Rattle: on memory lent as
- * described under "Memory" below, every call returns, stays within its buffers
- * and gives the one answer of the rules. Only hermitian_mend corrects wrong
- * symbols; the other calls say when no message fits.
+ * values of a polynomial at the n points of a Hermitian curve), or finds the word
+ * that has k given symbols at k chosen places; it reads whole words back, recovers
+ * messages from words with missing symbols, and mends whole words with wrong
+ * symbols. It is written and proved in Rattle: on memory lent as described under
+ * "Memory" below, every call returns, stays within its buffers and gives the one
+ * answer of the rules. Only hermitian_mend corrects wrong symbols; the other calls
+ * that read words say when no message fits.
  *
  *   q   blocks         n, length of a word   symbols     order m
  *   2   short            8                   0 to 3      0 to 7
@@ -21,13 +22,15 @@
  *
  * hermitian_encode and hermitian_unencode take all three q. Long blocks are
  * recovered by hermitian_recover_long, which takes no q and is lent memory to work
- * in; hermitian_recover and hermitian_mend take short blocks only and refuse q = 8.
+ * in; hermitian_encode_at, hermitian_recover and hermitian_mend take short blocks
+ * only and refuse q = 8.
  *
  * An m of n or more, up to 65535, is refused. Earlier m was a uint8_t: a value up to
  * 255 means what it meant, but callers compiled then must be compiled anew.
  *
  * Memory. The library trusts these four points and can't check them:
- *   - Each pointer is good for as many bytes as the length beside it says.
+ *   - Each pointer is good for as many bytes as the length beside it says; that to
+ *     places for as many uint16_t, aligned as these must be.
  *   - No pointer is NULL, not even beside the length 0: pass the address of any
  *     object there. A NULL may work by luck, but nothing is promised of it.
  *   - No two buffers of a call overlap.
@@ -42,9 +45,10 @@
  * Threads. There is no state outside a call: no globals, no heap, no setup. Any
  * number of threads may call at once, each with output buffers of its own; they
  * may share an input. As built now, a call on a short block takes less than
- * 10 KiB of stack (measured and not proved: most is 9488 bytes, to mend, and of the
- * other calls 5568, to recover), one on a long block less than 13 KiB; from the
- * platform it needs memcpy and memset.
+ * 12 KiB of stack (measured and not proved, in bytes: to encode at places 12096, and
+ * 7024 for an m up to 37; 10320 to mend, and of the other calls 6400 at most, to
+ * recover), one on a long block less than 13 KiB; from the platform it needs memcpy
+ * and memset.
  *
  * Linking. `rt staticlib hermitian` writes target/staticlib/libhermitian.a, for
  * x86-64, with all entries but hermitian_recover_long, which `rt staticlib
@@ -69,19 +73,21 @@ extern "C" {
 #define HERMITIAN_WORK_LENGTH 262144
 
 /*
- * Why a call was refused. The checks run in this order, only 12 comes right
+ * Why a call was refused. The checks run in this order, only 12 and 15 come right
  * after 2 and 14 right after 5, and the first that applies decides. 6 and 7 belong
  * to receiving sessions and 13 to the field's inverse, which C doesn't call; the
  * entries below never give them. 8 no longer occurs.
  */
 enum hermitian_refusal {
     HERMITIAN_DONE = 0,
-    /* q is none of 2, 4 and 8; for recover and mend: q is neither 2 nor 4. */
+    /* q is none of 2, 4 and 8; for encode_at, recover and mend: q is neither 2 nor
+       4. */
     HERMITIAN_UNKNOWN_CURVE = 1,
     /* m is n or more: above 7 (q = 2), 63 (q = 4) or 511 (long blocks), up to
        65535. */
     HERMITIAN_ORDER_TOO_HIGH = 2,
-    /* The input isn't as long as it must be: k for a message, n for a word. */
+    /* The input isn't as long as it must be: k for a message and for the symbols of
+       encode_at, n for a word. */
     HERMITIAN_WRONG_INPUT_LENGTH = 3,
     /* An input byte is no symbol. Second number: the lowest index of such a
        byte, from 0. */
@@ -106,13 +112,30 @@ enum hermitian_refusal {
     HERMITIAN_ORDER_TOO_HIGH_TO_MEND = 12,
     /* The work memory isn't HERMITIAN_WORK_LENGTH bytes long. Only from
        recover_long, after 5. */
-    HERMITIAN_WRONG_WORK_LENGTH = 14
+    HERMITIAN_WRONG_WORK_LENGTH = 14,
+    /* The places aren't k in number, or not strictly ascending, or one of them is n
+       or more, up to 65535. Only from encode_at, after 2. */
+    HERMITIAN_BAD_PLACES = 15,
+    /* The places don't fix the codeword: two codewords agree on all of them,
+       whichever symbols come along. Only from encode_at, last. */
+    HERMITIAN_PLACES_LEAVE_SEVERAL = 16
 };
 
 /* Writes the word of a message: message_length must be k, word_length n. */
 uint32_t hermitian_encode(uint8_t q, uint16_t m,
                           const uint8_t *message, size_t message_length,
                           uint8_t *word, size_t word_length);
+
+/* Writes the only word of a short block that has symbols[i] at place places[i], for
+   all i: count and symbol_count must be k, word_length n. The places ascend strictly
+   and are below n; place q * x + i is point i, from 0, of column x. Which sets of k
+   places will do depends on q and m alone, not on the symbols. The word is a codeword
+   like any other, and its message, which hermitian_unencode gives, isn't the symbols.
+   HERMITIAN_MISSING counts as a bad value here. */
+uint32_t hermitian_encode_at(uint8_t q, uint16_t m,
+                             const uint16_t *places, size_t count,
+                             const uint8_t *symbols, size_t symbol_count,
+                             uint8_t *word, size_t word_length);
 
 /* Writes the message of a whole word: word_length must be n, message_length k.
    HERMITIAN_MISSING counts as a bad value here. */

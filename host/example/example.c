@@ -1,6 +1,6 @@
 /* One message on its way: encoded, partly lost, recovered, and with wrong symbols
- * mended; then what a refusal looks like; then a long block. Returns 1 if anything
- * isn't as it should be. */
+ * mended; then what a refusal looks like; then a payload that can be read without a
+ * decoder; then a long block. Returns 1 if anything isn't as it should be. */
 #include <stdio.h>
 #include <string.h>
 
@@ -66,6 +66,12 @@ static void explain(uint32_t answer) {
         break;
     case HERMITIAN_WRONG_WORK_LENGTH:
         puts("  refused: the work memory has the wrong length");
+        break;
+    case HERMITIAN_BAD_PLACES:
+        puts("  refused: the places must be k in number, ascending and below n");
+        break;
+    case HERMITIAN_PLACES_LEAVE_SEVERAL:
+        puts("  refused: the places don't fix the codeword at this order");
         break;
     default:
         printf("  refused: number %u, which this program doesn't know\n",
@@ -173,6 +179,72 @@ static void refuse(const uint8_t word[N]) {
     expect(memcmp(read, untouched, K) == 0, "the refusals wrote nothing");
 }
 
+/* Where a viewer finds the payload: in every column the first place, and with it the
+ * second in even columns, the third in odd ones. That these places fix the codeword
+ * was found by trying; no two rows, the same in all columns, do. */
+static const uint16_t PLACES[K] = {
+    0,  1,  4,  6,  8,  9,  12, 14, 16, 17, 20, 22, 24, 25, 28, 30,
+    32, 33, 36, 38, 40, 41, 44, 46, 48, 49, 52, 54, 56, 57, 60, 62,
+};
+
+static void read_in_clear(const uint8_t word[N], uint8_t payload[K]) {
+    for (size_t i = 0; i < K; i++) {
+        payload[i] = word[PLACES[i]];
+    }
+}
+
+static int is_payload(size_t place) {
+    for (size_t i = 0; i < K; i++) {
+        if (PLACES[i] == place) {
+            return 1;
+        }
+    }
+    return 0;
+}
+
+/* The block as 16 columns of 4 symbols, the payload in brackets. */
+static void show_columns(const uint8_t word[N]) {
+    for (size_t row = 0; row < Q; row++) {
+        printf("          ");
+        for (size_t column = 0; column < Q * Q; column++) {
+            size_t place = Q * column + row;
+            printf(is_payload(place) ? "[%x]" : " %x ", (unsigned)word[place]);
+        }
+        putchar('\n');
+    }
+}
+
+static void send_in_clear(const uint8_t payload[K]) {
+    uint8_t word[N] = {0};
+    uint8_t again[N] = {0};
+    uint8_t message[K] = {0};
+    uint8_t read[K] = {0};
+    expect(hermitian_encode_at(Q, M, PLACES, K, payload, K, word, N) == HERMITIAN_DONE,
+           "a word is found that has a payload at fixed places");
+    show("payload:  ", payload, K);
+    show_columns(word);
+    read_in_clear(word, read);
+    expect(memcmp(read, payload, K) == 0, "the payload is read without a decoder");
+
+    memcpy(again, word, N);
+    lose(again, 26);
+    show("arrived:  ", again, N);
+    expect(hermitian_recover(Q, M, again, N, message, K) == HERMITIAN_DONE &&
+               hermitian_encode(Q, M, message, K, again, N) == HERMITIAN_DONE &&
+               memcmp(again, word, N) == 0,
+           "the word is recovered like any other with 26 symbols missing");
+
+    uint16_t eight_columns[K];
+    for (size_t i = 0; i < K; i++) {
+        eight_columns[i] = (uint16_t)i;
+    }
+    uint32_t answer = hermitian_encode_at(Q, M, eight_columns, K, payload, K, word, N);
+    explain(answer);
+    expect(hermitian_number(answer) == HERMITIAN_PLACES_LEAVE_SEVERAL,
+           "two codewords agree on the first eight columns");
+    expect(memcmp(again, word, N) == 0, "the refusal left the word as it was");
+}
+
 /* The memory that long blocks are recovered in, too large for some stacks. */
 static uint8_t work[HERMITIAN_WORK_LENGTH];
 
@@ -240,6 +312,7 @@ int main(void) {
     lose_and_recover(message, word);
     damage_and_mend(message, word);
     refuse(word);
+    send_in_clear(message);
     lose_and_recover_long_block();
     puts(failures == 0 ? "all as expected" : "SOMETHING FAILED");
     return failures == 0 ? 0 : 1;

@@ -240,6 +240,52 @@ fn turns_case(record: [u8; 160]) {
     );
 }
 
+// The places of a record, of a byte each.
+fn low_places(record: [u8; 160]) -> [u16; 72]
+    ensures { λ r. ⌜ length r ≡ 72 ⌝ }
+{
+    let mut places = [0u16; 72];
+    let mut i = 0;
+    while i < 72 {
+        places[i] = record[8 + i] as u16;
+        i += 1;
+    }
+    places
+}
+
+// The same with the high byte that one of them has. Byte 6 says which.
+fn chosen_places(record: [u8; 160]) -> [u16; 72]
+    ensures { λ r. ⌜ length r ≡ 72 ⌝ }
+{
+    let mut places = low_places(record);
+    let i = record[6] as usize;
+    if i < 72 {
+        places[i] = number(record[8 + i], record[153]);
+    }
+    places
+}
+
+fn encode_at_answer(q: u8, m: u16, places: &[u16], symbols: &[u8], word: &mut [u8]) {
+    let outcome = systematic::encode_at(q, m, places, symbols, word);
+    print_answer(b'E', outcome);
+    print_values(word, b'\n');
+}
+
+fn encode_at_case(record: [u8; 160]) {
+    let places = chosen_places(record);
+    let mut word = [record[7]; 72];
+    let count = room(record[3] as usize);
+    let symbols_end = 80 + room(record[4] as usize);
+    let word_end = room(record[5] as usize);
+    encode_at_answer(
+        record[1],
+        order(record),
+        &places[..count],
+        &record[80..symbols_end],
+        &mut word[..word_end],
+    );
+}
+
 // Runs a case of no job at the current session and answers the one after it.
 fn run_case(session: Session, record: [u8; 160]) -> Session {
     match record[0] {
@@ -258,6 +304,10 @@ fn run_case(session: Session, record: [u8; 160]) -> Session {
         }
         b't' => {
             turns_case(record);
+            session
+        }
+        b'E' => {
+            encode_at_case(record);
             session
         }
         _ => {

@@ -1,7 +1,7 @@
 -- What demand 3 rests on, of a curve's number q and an order m: how many messages fit a broken word, and how few places decide.
 -- Assumes nothing.
 use mathlib.Core.Path.{_≡_, sym, _∙_, subst}
-use mathlib.Core.Bool.{Bool, true, not}
+use mathlib.Core.Bool.{true}
 use mathlib.Core.Logic.{_↔_, _⊎_, ⊎-elim}
 use mathlib.Core.List.{List, List·Memᴰ as Mem}
 use Prim.Native.Nat.{ℕ, _+_, _*_, _≤_, _<_}
@@ -22,6 +22,7 @@ use Rattle.points.proofs.ColumnPoints.{full-columns, full-places}
 use Rattle.code.specs.Terms.{size}
 use Rattle.code.specs.Word.{wordOf}
 use Rattle.code.specs.Fitting.{fits}
+use Rattle.code.specs.inner.Recovering.{present}
 use Rattle.code.specs.inner.Rows.{rowOf}
 use Rattle.code.proofs.FullColumns.{full-points}
 use Rattle.code.proofs.Zeros.{agree}
@@ -42,13 +43,10 @@ pub record Facts (q m : ℕ) : Type 0 where
       → ((p : ℕ) → Mem p places → (p < q * q * q) × (getD (wordOf q (columnsOf q) m v) p 0 ≡ getD (wordOf q (columnsOf q) m w) p 0)) → v ≡ w
 
 -- a value is there
-abbrev present : List ℕ → ℕ → Bool
-present broken p = not (eqb (entry broken p) 255)
-
-of-present : (broken : List ℕ) (p : ℕ) → T (present broken p) → entry broken p ≡ 255 → ⊥
+pub of-present : (broken : List ℕ) (p : ℕ) → T (present broken p) → entry broken p ≡ 255 → ⊥
 of-present broken p t e = T-not (eqb (entry broken p) 255) t (rw (eq-eqb (entry broken p) 255 e) tt)
 
-to-present : (broken : List ℕ) (p : ℕ) → (entry broken p ≡ 255 → ⊥) → T (present broken p)
+pub to-present : (broken : List ℕ) (p : ℕ) → (entry broken p ≡ 255 → ⊥) → T (present broken p)
 to-present broken p d = not-T (eqb (entry broken p) 255) (λ t. d (eqb→eq (entry broken p) 255 t))
 
 module _ (q m : ℕ) (curve : IsCurve q) where

@@ -3,13 +3,14 @@
 use mathlib.Core.List.{List}
 use mathlib.Core.Path.{_≡_, sym, ap, _∙_}
 use Prim.Native.Nat.{ℕ, _*_, _/_, _%_, _<_}
-use native.Mathlib.Nat.{div-add-mod, div-lt-iff-lt-mul, mod-lt, mul-comm}
+use native.Mathlib.Nat.{div-add-mod, mod-lt}
 use native.Mathlib.Omega.{arith}
 use lib.ListN.{length, getD}
 use Rattle.field.proofs.Fields.{fieldOf}
 use Rattle.field.proofs.Curves.{sizes}
 use Rattle.poly.specs.inner.Linear.{entry, dot}
 use Rattle.points.specs.inner.Columns.{Columns}
+use Rattle.points.proofs.Places.{column-of}
 use Rattle.code.specs.Terms.{size}
 use Rattle.code.specs.Word.{valueAt, wordOf}
 use Rattle.code.specs.inner.Rows.{rowOf}
@@ -24,6 +25,6 @@ pub word-dot : (q : ℕ) (columns : List ℕ) → Columns q columns → (m : ℕ
 unfolding valueAt dot rowOf
 word-dot q columns over m v p l =
     let pos : 0 < q = omega (arith, sizes q (over .curve) .low) in
-    let column : p / q < length columns = div-lt-iff-lt-mul {x = p} {y = length columns} pos .1 (rw (mul-comm (length columns) q) l) in
+    let column = column-of q pos (length columns) p l in
     ap (λ (i : ℕ). getD (wordOf q columns m v) i 0) (sym (div-add-mod p q))
     ∙ word-at q m (over .curve) v columns (over .small) (p / q) (p % q) column (mod-lt p pos)

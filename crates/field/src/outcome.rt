@@ -24,6 +24,9 @@ pub enum Outcome {
     InverseOfZero,
     // request T-09: number 14, a work slice of another length
     BadWork,
+    // request T-10: numbers 15, places that aren't k ascending ones below n, and 16, places that don't fix the codeword
+    BadPlaces,
+    NoInformationSet,
 }
 
 // The refusal number, 0 for Done.
@@ -45,6 +48,8 @@ pub fn number(o: Outcome) -> u8
         Outcome::NoRadius => 12,
         Outcome::InverseOfZero => 13,
         Outcome::BadWork => 14,
+        Outcome::BadPlaces => 15,
+        Outcome::NoInformationSet => 16,
     }
 }
 
@@ -67,6 +72,8 @@ pub fn second(o: Outcome) -> u16
         Outcome::NoRadius => 0,
         Outcome::InverseOfZero => 0,
         Outcome::BadWork => 0,
+        Outcome::BadPlaces => 0,
+        Outcome::NoInformationSet => 0,
     }
 }
 

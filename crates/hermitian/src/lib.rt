@@ -5,6 +5,7 @@ ghost use Rattle.code.specs.Encoded.{encoded};
 ghost use Rattle.code.specs.Recovered.{recovered};
 ghost use Rattle.code.specs.Unencoded.{unencoded};
 ghost use Rattle.mend.specs.Mended.{mended};
+ghost use Rattle.systematic.specs.EncodedAt.{encodedAt};
 use code::encoding;
 use code::unencoding;
 use field::outcome;
@@ -45,4 +46,17 @@ pub extern "C" fn hermitian_mend(
     let reply = mend::mend(q, m, word, message, codeword, marks);
     let o = reply.outcome;
     outcome::packed(o)
+}
+
+#[no_mangle]
+pub extern "C" fn hermitian_encode_at(
+    q: u8,
+    m: u16,
+    places: &[u16],
+    symbols: &[u8],
+    word: &mut [u8],
+) -> u32
+    ensures { λ r. ⌜ Packed (encodedAt q m (now (places .entry)) (now (symbols .entry)) (now (word .entry))) r (now (word .exit)) ⌝ }
+{
+    outcome::packed(systematic::encode_at(q, m, places, symbols, word))
 }

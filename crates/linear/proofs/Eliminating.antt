@@ -1,15 +1,17 @@
 -- The search for a pivot, the tables of its multiples, and the turns of the loops that eliminate.
 -- Assumes nothing.
 use mathlib.Core.List.{List, _++_}
+use mathlib.Core.Logic.{_⊎_, inl, inr, ⊎-elim}
 use mathlib.Core.Path.{_≡_, refl, sym, ap, ap₂, _∙_, subst}
 use Prim.Native.Nat.{ℕ, suc, _+_, _-_, _*_, _^_, _≤_, _<_}
-use native.Mathlib.Nat.{mul-zero, mul-one, mul-suc, mul-add, mul-le-mul-left}
+use native.Mathlib.Nat.{mul-zero, mul-one, mul-suc, mul-add, mul-le-mul-left, mod-eq-of-lt}
 use native.Mathlib.Numerals.{add-one}
 use native.Mathlib.Decide.{ℕ-discrete}
 use lib.Dec.{lit≤}
 use native.Mathlib.Omega.{arith}
 use borrow.Author.Tests.{eq-eqb}
 use borrow.Rule.Slice.PartMut.{putMid}
+use lib.Bits.{bitAnd, and-zero-l, and-comm, and-mask}
 use lib.Dec.{T, eqb, T-not, not-T, eqb→eq}
 use lib.ListN.{length, take, drop, length-append, length-drop, length-replicate, List·getD-append}
 use lib.Seq.{getD-take, length-take-le}
@@ -28,6 +30,18 @@ use Rattle.poly.proofs.Blocks.{block-start}
 use Rattle.linear.proofs.Pivots.{eliminated-none, eliminated-free, eliminated-pivot, cleared-rows}
 
 -- ---- the search for a pivot, downwards
+
+-- a mask keeps a byte or takes it away
+masked : (a b : ℕ) → (a ≡ 0) ⊎ (a ≡ 255) → b < 256 → ((a ≡ 0) × (bitAnd a b ≡ 0)) ⊎ ((a ≡ 255) × (bitAnd a b ≡ b))
+masked a b (inl e) l = inl (e, ap (λ (x : ℕ). bitAnd x b) e ∙ and-zero-l b)
+masked a b (inr e) l = inr (e, ap (λ (x : ℕ). bitAnd x b) e ∙ and-comm 255 b ∙ and-mask b 8 ∙ mod-eq-of-lt l)
+
+pub mask-some : (a b : ℕ) → (a ≡ 0) ⊎ (a ≡ 255) → b < 256 → (bitAnd a b ≡ 0 → ⊥) → (a ≡ 0 → ⊥) × (b ≡ 0 → ⊥)
+mask-some a b h l d =
+    ⊎-elim (λ w. absurd (d (w .1))) (λ w. (λ e. omega (arith, w .0), λ e. d (w .1 ∙ e))) (masked a b h l)
+
+pub mask-none : (a b : ℕ) → (a ≡ 0) ⊎ (a ≡ 255) → b < 256 → bitAnd a b ≡ 0 → (a ≡ 0 → ⊥) → b ≡ 0
+mask-none a b h l e d = ⊎-elim (λ w. absurd (d (w .0))) (λ w. sym (w .1) ∙ e) (masked a b h l)
 
 pub marked-not : (high : List ℕ) (i : ℕ) → entry high i ≡ 0 → T (marked high i) → ⊥
 marked-not high i e t = T-not (eqb (entry high i) 0) t (rw (eq-eqb (entry high i) 0 e) tt)

@@ -7,19 +7,20 @@ use native.Mathlib.Nat.{mul-suc, mul-add, mul-one, mul-left-comm, mul-le-mul-lef
 use native.Mathlib.Decide.{decLt, ℕ-discrete}
 use native.Mathlib.Omega.{arith}
 use borrow.Rule.Slice.PartMut.{putMid}
-use lib.ListN.{length, getD}
+use lib.ListN.{length, getD, length-replicate}
 use Rattle.field.specs.Curve.{bitsOf}
 use Rattle.field.specs.inner.Halves.{halfOf}
 use Rattle.field.specs.Plus.{plus}
 use Rattle.field.specs.Field.{Field}
 use Rattle.field.proofs.Fields.{fieldOf}
-use Rattle.field.proofs.FieldLaws.{zero-times, plus-times}
+use Rattle.field.proofs.FieldLaws.{zero-lt, zero-times, plus-times}
 use Rattle.field.proofs.Halves.{halves, low-half-lt, high-half-lt, half-lt, two-le-half, two-times, two-times-half, plus-one}
 use Rattle.poly.specs.inner.Ranges.{Below, writes, part}
 use Rattle.poly.specs.inner.Linear.{entry}
 use Rattle.poly.specs.inner.Lanes.{lanes}
 use Rattle.poly.specs.inner.Rows.{stored, cleared}
 use Rattle.linear.specs.inner.Eliminating.{Table, Multiples, Doubled, Clearing}
+use Rattle.poly.proofs.Entries.{zeros, getD-zeros}
 use Rattle.poly.proofs.Parts.{length-part, part-at, put-is, length-put, put-low, put-in, put-high, below-put, below-part}
 use Rattle.poly.proofs.Multiples.{length-stored, stored-in, stored-all}
 use Rattle.poly.proofs.LaneLaws.{lanes-at, lanes-below}
@@ -360,6 +361,16 @@ module _ (q n half : ℕ) (low : List ℕ) (is-half : half ≡ halfOf q) where
       ap (F .times 2) (part-at low from (from + n) j (omega arith) ∙ h .at (half / 2) j (omega (arith, two-le-half q)) l)
       ∙ sym (F .times-assoc 2 (half / 2) (v j))
       ∙ ap (λ (x : ℕ). F .times x (v j)) (ap (λ (x : ℕ). F .times 2 (x / 2)) is-half ∙ two-times-half q)
+
+-- room for the multiples of vectors of n symbols
+pub zero-table : (q n room : ℕ) → n % 16 ≡ 0 → n * halfOf q ≤ room → Table (fieldOf q) n (halfOf q) (zeros room)
+zero-table q n room sixteens fits =
+    record {
+      sixteens = sixteens;
+      room = omega (arith, fits, length-replicate {A = ℕ} room 0);
+      symbols = λ i. rw (getD-zeros room i) (zero-lt (fieldOf q));
+      zero = λ j l. getD-zeros room j;
+    }
 
 -- ---- clearing
 

@@ -1,7 +1,7 @@
 // Vectors of n symbols side by side in a slice, n a multiple of 16, and one apart: which combinations of them, that one added, are 0 at
 // the entries that count.
 ghost use mathlib.Core.Path.{_≡_};
-ghost use Prim.Native.Nat.{ℕ, _+_, _*_, _%_, _≤_, _<_};
+ghost use Prim.Native.Nat.{_+_, _*_, _%_, _≤_, _<_};
 ghost use lib.ListN.{length};
 ghost use Rattle.field.specs.inner.Halves.{halfOf};
 ghost use Rattle.field.specs.Plus.{plus};
@@ -10,22 +10,21 @@ ghost use Rattle.poly.specs.inner.Ranges.{Below, writes};
 ghost use Rattle.poly.specs.inner.Linear.{entry};
 ghost use Rattle.poly.specs.inner.Rows.{cleared};
 ghost use Rattle.linear.specs.inner.Combinations.{rowsFrom, Eliminated};
-ghost use Rattle.linear.specs.inner.Eliminating.{marked, Last, Table, Multiples, Doubled, Clearing, AllCleared, PivotTaken, Stepped};
+ghost use Rattle.linear.specs.inner.Eliminating.{marked, Masks, Last, Table, Multiples, Doubled, Clearing, AllCleared, PivotTaken, Stepped};
 use poly::lanes;
 use poly::rows;
 
-// One more than the last place where neither high nor v is 0; 0 where there is none.
-fn pivot(high: &[u8], v: &[u8]) -> usize
-    requires { ⌜ length (now high) ≡ length (now v) ⌝ }
+// One more than the last place where neither high nor v is 0; 0 where there is none. Marks are masks, so that one test at a place does: with a
+// test for the mark and one for the symbol, marks that stand in no order would be guessed wrong again and again.
+pub fn pivot(high: &[u8], v: &[u8]) -> usize
+    requires { ⌜ (length (now high) ≡ length (now v)) × Masks (now high) ⌝ }
     ensures { λ r. ⌜ Last (now (high .entry)) (now (v .entry)) r ⌝ }
 {
     let mut p = high.len();
     while 0 < p {
         let i = p - 1;
-        if high[i] != 0 {
-            if v[i] != 0 {
-                return p;
-            }
+        if high[i] & v[i] != 0 {
+            return p;
         }
         p = i;
     }
@@ -247,7 +246,7 @@ fn step(
     vectors: &mut [u8],
     grid: &mut [u8],
 ) -> usize
-    requires { ⌜ Table (fieldOf q) (length (now high)) (halfOf q) (now low) × Table (fieldOf q) (length (now high)) (halfOf q) (now top) ⌝ }
+    requires { ⌜ Table (fieldOf q) (length (now high)) (halfOf q) (now low) × Table (fieldOf q) (length (now high)) (halfOf q) (now top) × Masks (now high) ⌝ }
     requires { ⌜ (length (now vectors) ≡ length (now high) * (count + 1)) × Below (fieldOf q .size) (now vectors) ⌝ }
     requires { ⌜ (length (now grid) ≡ length (now high)) × Below (fieldOf q .size) (now grid) ⌝ }
     ensures { λ r. ⌜ Table (fieldOf q) (length (now (high .entry))) (halfOf q) (now (low .exit))
@@ -275,7 +274,7 @@ pub fn eliminate(
     vectors: &mut [u8],
     grid: &mut [u8],
 ) -> usize
-    requires { ⌜ Table (fieldOf q) (length (now high)) (halfOf q) (now low) × Table (fieldOf q) (length (now high)) (halfOf q) (now top) ⌝ }
+    requires { ⌜ Table (fieldOf q) (length (now high)) (halfOf q) (now low) × Table (fieldOf q) (length (now high)) (halfOf q) (now top) × Masks (now high) ⌝ }
     requires { ⌜ (length (now vectors) ≡ length (now high) * count) × Below (fieldOf q .size) (now vectors) ⌝ }
     requires { ⌜ (length (now grid) ≡ length (now high)) × Below (fieldOf q .size) (now grid) ⌝ }
     ensures { λ r. ⌜ Below (fieldOf q .size) (now (grid .exit)) ⌝ }
@@ -294,4 +293,25 @@ pub fn eliminate(
         t += 1;
     }
     rank
+}
+
+// The same of short blocks, whose vectors have 64 symbols: one function for all callers, so that the loops are compiled for that number.
+pub fn eliminate_short(
+    q: u8,
+    count: usize,
+    high: &[u8; 64],
+    vectors: &mut [u8],
+    grid: &mut [u8; 64],
+) -> usize
+    requires { ⌜ (64 * halfOf q ≤ 256) × (length (now high) ≡ 64) × Masks (now high) ⌝ }
+    requires { ⌜ (length (now vectors) ≡ 64 * count) × Below (fieldOf q .size) (now vectors) ⌝ }
+    requires { ⌜ (length (now grid) ≡ 64) × Below (fieldOf q .size) (now grid) ⌝ }
+    ensures { λ r. ⌜ Below (fieldOf q .size) (now (grid .exit)) × (length (now (grid .exit)) ≡ 64) ⌝ }
+    ensures { λ r. ⌜ Eliminated (fieldOf q) (marked (now (high .entry))) 64 count
+        (rowsFrom 64 0 (now (vectors .entry)) (now (grid .entry))) count r
+        (rowsFrom 64 count (now (vectors .exit)) (now (grid .exit))) ⌝ }
+{
+    let mut low = [0u8; 256];
+    let mut top = [0u8; 256];
+    eliminate(q, count, high, &mut low, &mut top, vectors, grid)
 }

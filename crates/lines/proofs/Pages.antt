@@ -1,16 +1,16 @@
 -- What a page is put together from: a value's character, a point, the last line and its spaces, and one page after another.
 -- Assumes nothing.
 use mathlib.Core.Bool.{true}
-use mathlib.Core.Path.{_≡_, refl, sym, ap, _∙_}
+use mathlib.Core.Path.{_≡_, sym, ap, _∙_}
 use mathlib.Core.List.{List, [], _∷_, _++_}
-use Prim.Native.Nat.{ℕ, zero, suc, _+_, _-_, _*_, _/_, _≤_, _<_}
-use native.Mathlib.Nat.{not-suc-le-zero}
+use Prim.Native.Nat.{ℕ, _+_, _-_, _*_, _/_, _≤_, _<_}
 use native.Mathlib.Omega.{arith}
 use borrow.Author.Tests.{eq-eqb, ne-eqb}
 use lib.ListN.{length, getD, replicate, take, drop, length-drop}
 use lib.Seq.{length-take-le}
 use Rattle.field.specs.declared.outcome.Outcome.{Outcome}
 use Rattle.field.specs.Outcomes.{number, second}
+use Rattle.poly.proofs.Fronts.{take-replicate}
 use Rattle.points.specs.inner.Columns.{Ys}
 use Rattle.points.proofs.YsTables.{table-at}
 use Rattle.code.specs.Answers.{Answer, answered}
@@ -63,11 +63,6 @@ module _ (refusal r : ℕ) where
       pub result-bad : (refusal ≡ 10 → ⊥) → resultText refusal r ≡ 98 ∷ 97 ∷ 100 ∷ []
       unfolding resultText
       result-bad d = rw (ne-eqb refusal 0 refused, ne-eqb refusal 9 some, ne-eqb refusal 10 d)
-
-take-replicate : (n m v : ℕ) → n ≤ m → take n (replicate m v) ≡ replicate n v
-take-replicate zero m v h = refl
-take-replicate (suc n) zero v h = absurd (not-suc-le-zero h)
-take-replicate (suc n) (suc m) v h = ap (λ (l : List ℕ). v ∷ l) (take-replicate n m v (omega arith))
 
 -- the spaces after a text that ends at `end`
 abbrev spaces : ℕ → ℕ → List ℕ

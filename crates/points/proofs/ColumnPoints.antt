@@ -15,7 +15,7 @@ use Rattle.field.proofs.Curves.{each-curve, sizes}
 use Rattle.points.specs.Passing.{passing, upTo}
 use Rattle.points.specs.Points.{onCurve, ysOf, columnsOf}
 use Rattle.points.specs.inner.Columns.{Columns}
-use Rattle.points.proofs.Passing.{place-true, at-place, nodup-passing}
+use Rattle.points.proofs.Passing.{place-true, passing-at, at-place, nodup-passing}
 use Rattle.points.proofs.Traces.{length-ys-8}
 
 -- ---- the y of a column
@@ -47,6 +47,9 @@ pub length-upTo : (n : ℕ) → length (upTo n) ≡ n
 unfolding passing
 length-upTo zero = refl
 length-upTo (suc n) = place-true (λ i. true) n refl ∙ ap suc (length-upTo n)
+
+pub up-to-at : (n p : ℕ) → p < n → getD (upTo n) p 0 ≡ p
+up-to-at n p l = ap (λ (i : ℕ). getD (upTo n) i 0) (sym (length-upTo p)) ∙ passing-at (λ i. true) n p refl l
 
 pub full-columns : (q : ℕ) → IsCurve q → Columns q (columnsOf q)
 full-columns q curve =

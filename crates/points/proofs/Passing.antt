@@ -4,7 +4,7 @@ use mathlib.Core.Bool.{Bool, true, false, cond}
 use mathlib.Core.Logic.{_⊎_, inl, inr}
 use mathlib.Core.List.{[], _∷_, _++_, append-nil, List·Memᴰ as Mem, List·Memᴰ·not-nil as not-nil}
 use mathlib.Core.List.{List·Memᴰ·append-cases as append-cases, List·Memᴰ·eq-of-singleton as eq-of-singleton}
-use mathlib.Core.Path.{_≡_, refl, sym, ap, _∙_}
+use mathlib.Core.Path.{_≡_, refl, sym, ap, _∙_, subst}
 use Prim.Native.Nat.{ℕ, zero, suc, _≤_, _<_}
 use native.Mathlib.Decide.{le-ind, decLt, ℕ-discrete}
 use native.Mathlib.Nat.{le-refl}
@@ -13,7 +13,7 @@ use lib.ListN.{length, getD, length-append, List·getD-append}
 use lib.Seq.{getD-append-seam}
 use Rattle.poly.specs.Lists.{Nodup}
 use Rattle.poly.proofs.Bools.{true-or-false}
-use Rattle.poly.proofs.Lists.{nodup-append}
+use Rattle.poly.proofs.Lists.{nodup-append, mem-getD}
 use Rattle.points.specs.Passing.{passing}
 
 module _ (p : ℕ → Bool) where
@@ -107,6 +107,9 @@ module _ (p : ℕ → Bool) where
       go b e (inl k) ih = let r = ih k in (omega (arith, r .0), r .1)
       go true e (inr k) ih = let h = eq-of-singleton k in (omega arith, rw h e)
       go false e (inr k) ih = absurd (not-nil k)
+
+  pub mem-passing : (n w : ℕ) → p w ≡ true → w < n → Mem w (passing p n)
+  mem-passing n w t l = subst (λ (x : ℕ). Mem x (passing p n)) (passing-at n w t l) (mem-getD (passing p n) 0 (place w) (place-lt w n t l))
 
   pub nodup-passing : (n : ℕ) → Nodup (passing p n)
   unfolding passing

@@ -38,10 +38,10 @@ known-symbol word p d = rw (ne-eqb (entry word p) 255 d) refl
 
 -- ---- the entries of a weight above m, r being the remainder of an entry
 
-pub heavy-one : (q m e r : ℕ) → r ≡ e % q → m < e + q * r → 1 ≡ oneIf (heavy q m e)
+pub heavy-one : (q m e r : ℕ) → r ≡ e % q → m < e + q * r → 255 ≡ 255 * oneIf (heavy q m e)
 heavy-one q m e r is l = rw (lt-ltb m (e + q * (e % q)) (rw is at l)) refl
 
-pub heavy-none : (q m e r : ℕ) → r ≡ e % q → e + q * r ≤ m → 0 ≡ oneIf (heavy q m e)
+pub heavy-none : (q m e r : ℕ) → r ≡ e % q → e + q * r ≤ m → 0 ≡ 255 * oneIf (heavy q m e)
 heavy-none q m e r is l = rw (le-ltb m (e + q * (e % q)) (rw is at l)) refl
 
 -- ---- a row for each gap

@@ -18,7 +18,7 @@ use Rattle.code.specs.inner.Recovering.{BrokenOver}
 use Rattle.recovery.specs.inner.Gaps.{known, KnownGrid}
 
 module _ (q : ℕ) (columns word : List ℕ) (h : BrokenOver q columns 0 word) where
-  known-lt : (p : ℕ) → p < length word → known word p < fieldOf q .size
+  pub known-lt : (p : ℕ) → p < length word → known word p < fieldOf q .size
   known-lt p l =
       elim (ℕ-discrete (getD word p 0) 255) [
         | yes e ↦ rw (eq-eqb (getD word p 0) 255 e) (zero-lt (fieldOf q))

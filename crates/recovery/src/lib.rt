@@ -33,7 +33,7 @@ use poly::rows;
 pub mod indicator;
 
 // The word with 0 at each gap.
-fn fill(word: &[u8], out: &mut [u8])
+pub fn fill(word: &[u8], out: &mut [u8])
     requires { ⌜ length (now out) ≡ length (now word) ⌝ }
     ensures { λ _. ⌜ now (out .exit) ≡ writes (now (out .entry)) (length (now (word .entry))) (known (now (word .entry))) ⌝ }
 {
@@ -130,10 +130,10 @@ fn write_long_indicators(columns: &[u8], word: &[u8], vectors: &mut [u8]) -> usi
     write_indicators(8, &factors, &powers, &ys, columns, word, 512, vectors)
 }
 
-// high[e] = 1 where the weight of entry e is above m, and 0 elsewhere. Weights are of 16 bits, so that eight are compared at once.
+// high[e] = 255 where the weight of entry e is above m, and 0 elsewhere. Weights are of 16 bits, so that eight are compared at once.
 fn mark(q: u8, m: usize, high: &mut [u8])
     requires { ⌜ IsCurve q × (m < 512) × (length (now high) ≤ 512) ⌝ }
-    ensures { λ _. ⌜ now (high .exit) ≡ writes (now (high .entry)) (length (now (high .entry))) (λ e. oneIf (heavy q m e)) ⌝ }
+    ensures { λ _. ⌜ now (high .exit) ≡ writes (now (high .entry)) (length (now (high .entry))) (λ e. 255 * oneIf (heavy q m e)) ⌝ }
 {
     let width = q as u16;
     let order = m as u16;
@@ -141,7 +141,7 @@ fn mark(q: u8, m: usize, high: &mut [u8])
     while e < high.len() {
         let d = term::divide(q, e);
         let weight = e as u16 + width * (d.rest as u16);
-        high[e] = if order < weight { 1 } else { 0 };
+        high[e] = if order < weight { 255 } else { 0 };
         e += 1;
     }
 }
@@ -171,17 +171,16 @@ fn eliminate(
 }
 
 // The same of a short block.
-fn eliminate_short(q: u8, m: usize, count: usize, vectors: &mut [u8], grid: &mut [u8]) -> usize
+fn eliminate_short(q: u8, m: usize, count: usize, vectors: &mut [u8], grid: &mut [u8; 64]) -> usize
     requires { ⌜ IsShort q × (m < 512) × (length (now vectors) ≡ 64 * count) × Below (fieldOf q .size) (now vectors) ⌝ }
     requires { ⌜ (length (now grid) ≡ 64) × Below (fieldOf q .size) (now grid) ⌝ }
-    ensures { λ r. ⌜ Below (fieldOf q .size) (now (grid .exit)) ⌝ }
+    ensures { λ r. ⌜ Below (fieldOf q .size) (now (grid .exit)) × (length (now (grid .exit)) ≡ 64) ⌝ }
     ensures { λ r. ⌜ Eliminated (fieldOf q) (heavy q m) 64 count (rowsFrom 64 0 (now (vectors .entry)) (now (grid .entry))) count r
         (rowsFrom 64 count (now (vectors .exit)) (now (grid .exit))) ⌝ }
 {
     let mut high = [0u8; 64];
-    let mut low = [0u8; 256];
-    let mut top = [0u8; 256];
-    eliminate(q, m, count, &mut high, &mut low, &mut top, vectors, grid)
+    mark(q, m, &mut high);
+    vectors::eliminate_short(q, count, &high, vectors, grid)
 }
 
 // The same of a long block.

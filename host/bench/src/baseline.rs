@@ -15,6 +15,8 @@ const NOT_A_SYMBOL: u32 = 4 << 16;
 const NO_MESSAGE_FITS: u32 = 9 << 16;
 const SEVERAL_MESSAGES_FIT: u32 = 10 << 16;
 pub const NO_CODEWORD_NEAR: u32 = 11 << 16;
+const BAD_PLACES: u32 = 15 << 16;
+pub const PLACES_LEAVE_SEVERAL: u32 = 16 << 16;
 
 /// The most wrong symbols that are mended, t.
 pub const RADIUS: usize = 10;
@@ -78,6 +80,30 @@ impl Baseline {
             return NOT_A_SYMBOL + index as u32;
         }
         *word = self.word_of(message);
+        DONE
+    }
+
+    /// Gauss elimination on the equations of the places gives the message, which is
+    /// encoded.
+    pub fn encode_at(&self, places: &[u16; K], symbols: &[u8; K], word: &mut [u8; N]) -> u32 {
+        let ascending = places.windows(2).all(|pair| pair[0] < pair[1]);
+        if !ascending || usize::from(places[K - 1]) >= N {
+            return BAD_PLACES;
+        }
+        if let Some(index) = symbols.iter().position(|&s| usize::from(s) >= SIZE) {
+            return NOT_A_SYMBOL + index as u32;
+        }
+        let mut rows = [[0; K + 1]; K];
+        for (row, (&place, &symbol)) in rows.iter_mut().zip(places.iter().zip(symbols)) {
+            row[..K].copy_from_slice(&self.equations[usize::from(place)]);
+            row[K] = symbol;
+        }
+        if self.reduce(&mut rows, K) < K {
+            return PLACES_LEAVE_SEVERAL;
+        }
+        let mut message = [0; K];
+        self.substitute_back(&rows, &mut message);
+        *word = self.word_of(&message);
         DONE
     }
 

@@ -4,7 +4,8 @@
 //!
 //! With `long` as argument it does the same for long blocks at q = 8, m = 300. With
 //! `blocks` it compares programs instead, with `turns` recovery in turns with
-//! recovery in one go; with an operation's name and a number of calls it runs the
+//! recovery in one go, with `places` encoding at chosen places with recovery from
+//! them at several orders; with an operation's name and a number of calls it runs the
 //! library alone, for a profiler.
 
 mod baseline;
@@ -12,6 +13,7 @@ mod blocks;
 mod blocks_baseline;
 mod long;
 mod long_baseline;
+mod places;
 mod profile;
 mod timing;
 mod turns;
@@ -48,9 +50,11 @@ const USAGE: &str = "arguments, one of these:
   long                the same for long blocks
   blocks [PROGRAM]    speed of the program `blocks` and of the baseline's
   turns               times of recovery in turns, by jobs, and of recovery in one go
+  places              times of encoding at chosen places and of recovery from these places
   blocks-baseline     the baseline's `blocks`, from standard input to standard output
   OPERATION CALLS     the library alone, for a profiler;
-                      the operation is encode, unencode, recover-COUNT, where COUNT symbols are missing,
+                      the operation is encode, encode-at, unencode,
+                      recover-COUNT, where COUNT symbols are missing,
                       or mend-COUNT, where COUNT symbols are wrong, of short blocks;
                       long-encode, long-unencode or long-recover-COUNT of long ones";
 
@@ -80,6 +84,10 @@ fn run(arguments: &[&str]) -> Result<(), String> {
             turns::print_table();
             Ok(())
         }
+        ["places"] => {
+            places::print_table();
+            Ok(())
+        }
         ["blocks"] => blocks::run(blocks::PROGRAM),
         ["blocks", program] => blocks::run(program),
         [BASELINE_MODE] => blocks_baseline::run(io::stdin().lock(), io::stdout().lock())
@@ -105,6 +113,9 @@ fn print_table() {
         let name = format!("mend, {wrong} wrong");
         print_row(&name, &mending_times(&baseline, &words, wrong));
     }
+    places::print_rows(&baseline);
+    println!();
+    places::print_beside_recovery();
 }
 
 fn print_heading() {
@@ -270,6 +281,7 @@ fn damaged(words: &[Word]) -> Vec<Word> {
     words.iter().map(damaged).collect()
 }
 
-fn fixed<const LENGTH: usize>(symbols: Vec<u8>) -> [u8; LENGTH] {
-    symbols.try_into().expect("the lengths of this order")
+fn fixed<Item, const LENGTH: usize>(items: Vec<Item>) -> [Item; LENGTH] {
+    let items = items.try_into().ok();
+    items.expect("the lengths of this order")
 }

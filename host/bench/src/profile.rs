@@ -4,7 +4,8 @@ use std::hint::black_box;
 
 use hermitian::WORK_LENGTH;
 
-use crate::{broken_words, long, messages, word_of, wrong_words, Word, K, M, N, Q, USAGE};
+use crate::{broken_words, long, messages, places, shape, word_of, wrong_words};
+use crate::{Word, K, M, N, Q, USAGE};
 
 pub fn run(operation: &str, calls: &str) -> Result<(), String> {
     let Ok(calls) = calls.parse::<usize>() else {
@@ -19,6 +20,12 @@ pub fn run(operation: &str, calls: &str) -> Result<(), String> {
 fn run_short(operation: &str, calls: usize) -> Result<(), String> {
     let words: Vec<Word> = messages().iter().map(word_of).collect();
     let (mut message, mut word, mut marks) = ([0; K], [0; N], [0; N]);
+    if operation == "encode-at" {
+        repeat(calls, &places::inputs(shape()), |input| {
+            hermitian::encode_at(Q, M, &input.places, &input.symbols, &mut word)
+        });
+        return Ok(());
+    }
     match named(operation, N) {
         Some(("encode", None)) => repeat(calls, &messages(), |input| {
             hermitian::encode(Q, M, input, &mut word)

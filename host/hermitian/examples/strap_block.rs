@@ -1,6 +1,7 @@
-//! One block of the strap: encoded, partly lost, recovered, and a refusal.
+//! One block of the strap: encoded, partly lost, recovered, and a refusal; and one
+//! whose payload is read without a decoder.
 
-use hermitian::{encode, message_length, recover, word_length, Refusal, MISSING};
+use hermitian::{encode, encode_at, message_length, recover, word_length, Refusal, MISSING};
 
 const Q: u8 = 4;
 const M: u16 = 37;
@@ -23,6 +24,17 @@ fn main() -> Result<(), Refusal> {
         Ok(()) => println!("recovered with {} of {n} symbols missing", missing(&word)),
         Err(refusal) => println!("with {} missing: {refusal}", missing(&word)),
     }
+    send_in_clear(&message, &mut word)
+}
+
+/// The payload stands at the first place of every column, and at the second of even
+/// columns, the third of odd ones.
+fn send_in_clear(payload: &[u8], word: &mut [u8]) -> Result<(), Refusal> {
+    let places: Vec<u16> = (0..16).flat_map(|x| [4 * x, 4 * x + 1 + x % 2]).collect();
+    encode_at(Q, M, &places, payload, word)?;
+    let read = places.iter().map(|&place| &word[usize::from(place)]);
+    assert!(read.eq(payload));
+    println!("{} symbols read without a decoder", places.len());
     Ok(())
 }
 

@@ -1,8 +1,8 @@
 //! The C entries as `include/hermitian.h` declares them.
 
-/// The shape of all but [`hermitian_recover_long`] and [`hermitian_mend`]: q, m, the
-/// input and its length, the output and its length. The answer is the refusal number times 65536 plus the
-/// second number.
+/// The shape of [`hermitian_encode`], [`hermitian_unencode`] and
+/// [`hermitian_recover`]: q, m, the input and its length, the output and its length.
+/// The answer is the refusal number times 65536 plus the second number.
 pub type Entry = unsafe extern "C" fn(u8, u16, *const u8, usize, *mut u8, usize) -> u32;
 
 extern "C" {
@@ -15,6 +15,20 @@ extern "C" {
         m: u16,
         message: *const u8,
         message_length: usize,
+        word: *mut u8,
+        word_length: usize,
+    ) -> u32;
+
+    /// # Safety
+    ///
+    /// As for [`hermitian_encode`], and `places` is aligned for numbers of 16 bits.
+    pub fn hermitian_encode_at(
+        q: u8,
+        m: u16,
+        places: *const u16,
+        count: usize,
+        symbols: *const u8,
+        symbol_count: usize,
         word: *mut u8,
         word_length: usize,
     ) -> u32;

@@ -3,6 +3,7 @@
 //! A message of k symbols becomes a word of n symbols, a codeword; the word
 //! gives the message back, whole or with symbols missing. Wrong symbols are
 //! corrected by [`mend`] alone: elsewhere the library says when no message fits.
+//! [`encode_at`] finds the word that has k given symbols at k chosen places.
 //!
 //! | q | n, length of a word | symbols | order m |
 //! |---|---|---|---|
@@ -16,8 +17,8 @@
 //! wrong symbols of a whole word are mended, 10 for the strap.
 //!
 //! The blocks of q = 8 are long ones. [`encode`] and [`unencode`] take all three
-//! curves, [`recover`] and [`mend`] short blocks only; [`recover_long`] takes long
-//! ones and is lent [`WORK_LENGTH`] bytes to work in.
+//! curves, [`encode_at`], [`recover`] and [`mend`] short blocks only;
+//! [`recover_long`] takes long ones and is lent [`WORK_LENGTH`] bytes to work in.
 //!
 //! ```
 //! use hermitian::{encode, recover, unencode, Refusal, MISSING};
@@ -46,9 +47,9 @@
 //! # Ok::<(), Refusal>(())
 //! ```
 //!
-//! The library trusts its caller in what C can't say: valid pointers that
-//! aren't null, and buffers that don't overlap. Slices and borrows give all of
-//! that, so the functions here are safe for every argument. That the
+//! The library trusts its caller in what C can't say: valid, aligned pointers
+//! that aren't null, and buffers that don't overlap. Slices and borrows give all
+//! of that, so the functions here are safe for every argument. That the
 //! declarations in [`entries`] are those of the library isn't proved; the
 //! differential tests hold them together.
 
@@ -56,10 +57,12 @@ pub mod entries;
 mod long;
 mod mend;
 mod refusal;
+mod systematic;
 
 pub use long::{recover_long, WORK_LENGTH};
 pub use mend::{mend, mend_into, Mended};
 pub use refusal::Refusal;
+pub use systematic::encode_at;
 
 /// Stands for a missing symbol in the word given to [`recover`] or
 /// [`recover_long`].

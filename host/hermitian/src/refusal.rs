@@ -3,17 +3,19 @@
 use std::error::Error;
 use std::fmt;
 
-/// The refusals that the five entries can give. The library checks in the
-/// order of the numbers, only 12 comes right after 2 and 14 right after 5, and the
+/// The refusals that the six entries can give. The library checks in the order
+/// of the numbers, only 12 and 15 come right after 2 and 14 right after 5, and the
 /// first that applies decides. Numbers 6 and 7 belong to receiving sessions and 13
 /// to the field's inverse, which have no C entry; 8 no longer occurs.
 #[derive(Clone, Copy, Debug, PartialEq, Eq, Hash)]
 pub enum Refusal {
-    /// 1: q is none of 2, 4 and 8; to recover and to mend: q is neither 2 nor 4.
+    /// 1: q is none of 2, 4 and 8; to encode at places, to recover and to mend: q is
+    /// neither 2 nor 4.
     UnknownCurve,
     /// 2: m is n or more, up to 65535.
     OrderTooHigh,
-    /// 3: the message isn't k long, or the word isn't n long.
+    /// 3: the message isn't k long, or the word isn't n long; to encode at places:
+    /// the symbols aren't k in number.
     WrongInputLength,
     /// 4: an input byte is no symbol; `index` is the lowest such index.
     NotASymbol { index: u16 },
@@ -29,6 +31,11 @@ pub enum Refusal {
     OrderTooHighToMend,
     /// 14: the work slice hasn't exactly [`crate::WORK_LENGTH`] bytes.
     WrongWorkLength,
+    /// 15: the places aren't k in number, or not strictly ascending, or one of them
+    /// is n or more, up to 65535.
+    BadPlaces,
+    /// 16: two codewords agree on all the places, whichever symbols come along.
+    PlacesLeaveSeveral,
     /// No answer of the rules: what is linked isn't the library that this
     /// wrapper was written for.
     NotInTheRules { answer: u32 },
@@ -73,6 +80,13 @@ impl fmt::Display for Refusal {
                 "the work slice is longer or shorter than {} bytes",
                 crate::WORK_LENGTH
             ),
+            Refusal::BadPlaces => write!(
+                f,
+                "the places must be as many as a message has symbols, ascending and in the block"
+            ),
+            Refusal::PlacesLeaveSeveral => {
+                write!(f, "the places don't fix the codeword at this order")
+            }
             Refusal::NotInTheRules { answer } => write!(
                 f,
                 "the linked library gave an answer outside the rules: {answer}"
@@ -98,6 +112,8 @@ pub(crate) fn of_answer(answer: u32) -> Result<(), Refusal> {
         11 => Refusal::NoCodewordNear,
         12 => Refusal::OrderTooHighToMend,
         14 => Refusal::WrongWorkLength,
+        15 => Refusal::BadPlaces,
+        16 => Refusal::PlacesLeaveSeveral,
         _ => Refusal::NotInTheRules { answer },
     };
     if refusal.answer() == answer {
@@ -121,6 +137,8 @@ impl Refusal {
             Refusal::NoCodewordNear => (11, 0),
             Refusal::OrderTooHighToMend => (12, 0),
             Refusal::WrongWorkLength => (14, 0),
+            Refusal::BadPlaces => (15, 0),
+            Refusal::PlacesLeaveSeveral => (16, 0),
             Refusal::NotInTheRules { answer } => return answer,
         };
         number * 65536 + u32::from(second)
@@ -147,6 +165,8 @@ mod tests {
             (720_896, Refusal::NoCodewordNear),
             (786_432, Refusal::OrderTooHighToMend),
             (917_504, Refusal::WrongWorkLength),
+            (983_040, Refusal::BadPlaces),
+            (1_048_576, Refusal::PlacesLeaveSeveral),
         ];
         for (answer, refusal) in rows {
             assert_eq!(of_answer(answer), Err(refusal));
@@ -162,8 +182,10 @@ mod tests {
             (9 << 16) + 256,
             (11 << 16) + 1,
             (14 << 16) + 1,
+            (15 << 16) + 1,
+            (16 << 16) + 1,
         ];
-        let no_refusal = [1, 6 << 16, 13 << 16, 15 << 16, u32::MAX];
+        let no_refusal = [1, 6 << 16, 13 << 16, 17 << 16, u32::MAX];
         for answer in [with_second.as_slice(), &no_refusal].concat() {
             let refusal = Refusal::NotInTheRules { answer };
             assert_eq!(of_answer(answer), Err(refusal));

@@ -9,14 +9,14 @@
 //! | 1 | q |
 //! | 2 | the low byte of m |
 //! | 3 | the length of the input, 0 to 72; of `y` the low byte of the next place |
-//! | 4 | the length of the output slice, 0 to 72 |
-//! | 5 | the first operand, the low byte of an arrival's place, the length of the mended word's slice, the budget of a job's call, or the first budget of `t` |
-//! | 6 | the second operand, the symbol of an arrival, the length of the marks' slice, or the second budget of `t`; of `y` its flags: 1 if a contradiction was met, 2 if the equations were complete |
-//! | 7 | the round of an arrival, or the third budget of `t`; of `y` the kind of work bytes |
-//! | 8 to 79 | the input, of `y` 64 bytes, then zeros |
-//! | 80 to 151 | the output slice before the call, of `m` the longest one, then zeros; of `y` any 72 bytes, which start with that slice |
+//! | 4 | the length of the output slice, 0 to 72; of `E` the number of symbols |
+//! | 5 | the first operand, the low byte of an arrival's place, the length of the mended word's slice, the length of the word's slice of `E`, the budget of a job's call, or the first budget of `t` |
+//! | 6 | the second operand, the symbol of an arrival, the length of the marks' slice, the index of the place of `E` that has a high byte, or the second budget of `t`; of `y` its flags: 1 if a contradiction was met, 2 if the equations were complete |
+//! | 7 | the round of an arrival, the byte that fills the word's slice of `E`, or the third budget of `t`; of `y` the kind of work bytes |
+//! | 8 to 79 | the input, of `y` 64 bytes, of `E` the low bytes of the places, then zeros |
+//! | 80 to 151 | the output slice before the call, of `m` the longest one, of `E` the symbols, then zeros; of `y` any 72 bytes, which start with that slice |
 //! | 152 | the high byte of m |
-//! | 153 | the high byte of an arrival's place or of the next place of `y` |
+//! | 153 | the high byte of an arrival's place, of the next place of `y` or of one place of `E` |
 //! | 154 to 159 | zeros |
 //!
 //! The ops are these letters:
@@ -70,6 +70,12 @@
 //!   output slice: a job of its own is carried on with each of the three budgets
 //!   and then until it is finished. That gives what recovery gives. Current
 //!   session and job stay as they are, and the line ends as with `e`.
+//! - `E`: encoding with symbols at chosen places (request T-10), from q, m, the
+//!   places and the symbols into the word's slice. Each place is a byte of the input,
+//!   and the one with the index at offset 6, if there is one, has a high byte too: one
+//!   place at most is above 255. The word's slice holds the same byte everywhere
+//!   before the call, and a length over 72 is taken as 72. Current session and job
+//!   stay as they are, and the line ends as with `e`.
 //!
 //! Until request T-08 orders and places had 8 bits, and the two high bytes were
 //! among the zeros: a record from before it reads as it did.
@@ -84,6 +90,7 @@ use crate::mend;
 use crate::outcome::Outcome;
 use crate::replay;
 use crate::session::{Session, PLACE_COUNT};
+use crate::systematic;
 
 pub const RECORD_LENGTH: usize = 160;
 
@@ -103,6 +110,8 @@ pub struct Case {
     pub m: u16,
     /// Of `a` and `y` only: the place of the arrival, the next place.
     pub place: u16,
+    /// Of `E` only: the high byte of the place with the index `b`.
+    pub high_byte: u8,
     /// Not of `a`, whose record has the place there.
     pub a: u8,
     pub b: u8,
@@ -167,6 +176,46 @@ impl Case {
         case.with_area(&area, message)
     }
 
+    /// A case of `E`. At most one of the places may be above 255. The word's slice
+    /// has this length and holds `fill` everywhere.
+    pub fn of_encoding_at(
+        q: u8,
+        m: u16,
+        places: &[u16],
+        symbols: &[u8],
+        length: usize,
+        fill: u8,
+    ) -> Case {
+        let bytes = places.iter().map(|place| place.to_le_bytes());
+        let (low_bytes, high_bytes): (Vec<u8>, Vec<u8>) =
+            bytes.map(|[low, high]| (low, high)).unzip();
+        let index = high_bytes.iter().position(|&high| high > 0).unwrap_or(0);
+        Case {
+            op: b'E',
+            q,
+            m,
+            high_byte: high_bytes.get(index).copied().unwrap_or(0),
+            a: length.min(SLICE_ROOM) as u8,
+            b: index as u8,
+            round: fill,
+            input: low_bytes,
+            output: symbols.to_vec(),
+            ..Case::default()
+        }
+    }
+
+    /// The places of a case of `E`.
+    pub fn places(&self) -> Vec<u16> {
+        let high_byte = |index: usize| match index == usize::from(self.b) {
+            true => self.high_byte,
+            false => 0,
+        };
+        let low_bytes = self.input.iter().enumerate();
+        low_bytes
+            .map(|(index, &low)| u16::from_le_bytes([low, high_byte(index)]))
+            .collect()
+    }
+
     /// The output slice is the first `output_length` bytes of the area, or all
     /// of it if it has fewer.
     pub fn with_area(self, area: &[u8], output_length: usize) -> Case {
@@ -189,12 +238,16 @@ impl Case {
             b'y' => (place, self.a),
             _ => (input.len() as u8, self.a),
         };
+        let byte_153 = match self.op {
+            b'E' => self.high_byte,
+            _ => place_high,
+        };
         let mut record = [0; RECORD_LENGTH];
         record[..3].copy_from_slice(&[self.op, self.q, order]);
         record[3..5].copy_from_slice(&[byte_3, output_length as u8]);
         record[5..8].copy_from_slice(&[byte_5, self.b, self.round]);
         record[HIGH_BYTE_OF_ORDER] = order_high;
-        record[HIGH_BYTE_OF_PLACE] = place_high;
+        record[HIGH_BYTE_OF_PLACE] = byte_153;
         record[INPUT_OFFSET..][..input.len()].copy_from_slice(input);
         record[OUTPUT_OFFSET..][..SLICE_ROOM].copy_from_slice(&area);
         record
@@ -214,6 +267,10 @@ impl Case {
             b'y' => (PLACE_COUNT, place(record[3]), record[5]),
             _ => (slice_length(record[3]), 0, record[5]),
         };
+        let high_byte = match record[0] {
+            b'E' => record[HIGH_BYTE_OF_PLACE],
+            _ => 0,
+        };
         let output_length = slice_length(record[4]);
         let area_length = match record[0] {
             b'm' => slice_length(record[4].max(record[5]).max(record[6])),
@@ -225,6 +282,7 @@ impl Case {
             q: record[1],
             m: u16::from_le_bytes([record[2], record[HIGH_BYTE_OF_ORDER]]),
             place,
+            high_byte,
             a,
             b: record[6],
             round: record[7],
@@ -270,6 +328,7 @@ impl Runner {
             b'+' | b'*' | b'i' => field_answer(case),
             b'o' | b's' | b'a' => self.session_answer(case),
             b'm' => mend_answer(case),
+            b'E' => encode_at_answer(case),
             b'j' | b'J' => self.job_opening_answer(case),
             b'c' => self.job_call_answer(case),
             b'y' => (Outcome::ACCEPTED, "kept".to_string()),
@@ -351,6 +410,12 @@ fn mend_answer(case: &Case) -> (Outcome, String) {
     );
     let [message, mended, marks] = [message, mended, marks].map(|slice| hexadecimal(&slice));
     (outcome, format!("{count} {message} {mended} {marks}"))
+}
+
+fn encode_at_answer(case: &Case) -> (Outcome, String) {
+    let mut word = vec![case.round; slice_length(case.a)];
+    let outcome = systematic::encode_at(case.q, case.m, &case.places(), &case.output, &mut word);
+    (outcome, hexadecimal(&word))
 }
 
 fn raw_session(case: &Case) -> Session {
@@ -492,7 +557,7 @@ mod tests {
 
     #[test]
     fn the_high_byte_of_an_order_is_at_offset_152() {
-        for op in *b"eurmosjJpty" {
+        for op in *b"eurmosjJptyE" {
             let mut record = [0; 160];
             record[..3].copy_from_slice(&[op, 4, 37]);
             for (high, m) in [(0, 37), (1, 293), (255, 65_317)] {
@@ -530,6 +595,76 @@ mod tests {
         let case = Case::from_record(&[b'y'; 160]);
         assert_eq!((case.input.len(), case.output.len()), (64, 72));
         assert_eq!(lines(&[case]), ["y 0 0 kept\n"]);
+        let mut record = [255; 160];
+        record[0] = b'E';
+        let case = Case::from_record(&record);
+        assert_eq!(case.places(), [255; 72]);
+        assert_eq!(case.output, [255; 72]);
+        assert_eq!(lines(&[case]), [format!("E 1 0 {}\n", "ff".repeat(72))]);
+    }
+
+    #[test]
+    fn the_layout_of_a_record_of_encoding_at_places() {
+        let places = [
+            (vec![6, 7, 255], 0, 0),
+            (vec![6, 7, 256], 2, 1),
+            (vec![6, 263, 255], 1, 1),
+            (vec![65_535, 6, 7], 0, 255),
+            (vec![], 0, 0),
+        ];
+        for (places, index, high) in places {
+            let case = Case::of_encoding_at(2, 259, &places, &[8, 9], 5, 99);
+            let mut expected = [0; 160];
+            expected[..8].copy_from_slice(&[69, 2, 3, places.len() as u8, 2, 5, index, 99]);
+            for (byte, place) in expected[8..].iter_mut().zip(&places) {
+                *byte = place.to_le_bytes()[0];
+            }
+            expected[80..82].copy_from_slice(&[8, 9]);
+            expected[152..154].copy_from_slice(&[1, high]);
+            assert_eq!(case.to_record(), expected);
+            assert_eq!(Case::from_record(&expected), case);
+            assert_eq!(case.places(), places);
+            // No place has the index 3, nor the high byte then.
+            expected[6] = 3;
+            let low_bytes = places.iter().map(|place| place % 256);
+            assert!(Case::from_record(&expected)
+                .places()
+                .into_iter()
+                .eq(low_bytes));
+        }
+        let longest = Case::of_encoding_at(2, 3, &[], &[], 73, 99);
+        assert_eq!(longest.a, 72);
+    }
+
+    /// Value E of paper 01 by three of its symbols, and the places where value H is 0,
+    /// as another codeword is. Session and job stay those of a refused opening.
+    #[test]
+    fn lines_of_encoding_at_places() {
+        let line = |places: &[u16], symbols: &[u8], length| {
+            let encoded = Case::of_encoding_at(2, 3, places, symbols, length, 99);
+            let after = lines(&[encoded, session_case(b'k', 0, 0, &[9]), job_call(1, &[9])]);
+            assert_eq!(after[1..], ["k 10 1 09\n", "c 10 1 0 finished 09\n"]);
+            after[0].clone()
+        };
+        let unchanged = "63".repeat(8);
+        assert_eq!(line(&[0, 1, 2], &[1, 2, 2], 8), "E 0 0 0102020103000102\n");
+        assert_eq!(line(&[5, 6, 7], &[0, 1, 2], 8), "E 0 0 0102020103000102\n");
+        for symbols in [[0, 0, 0], [1, 2, 3]] {
+            assert_eq!(
+                line(&[0, 4, 7], &symbols, 8),
+                format!("E 16 0 {unchanged}\n")
+            );
+            assert_eq!(
+                line(&[0, 4, 7], &symbols, 9),
+                format!("E 5 0 {unchanged}63\n")
+            );
+            assert_eq!(
+                line(&[0, 4, 263], &symbols, 8),
+                format!("E 15 0 {unchanged}\n")
+            );
+        }
+        assert_eq!(line(&[0, 1, 2], &[1, 2, 4], 0), "E 4 2 \n");
+        assert_eq!(line(&[0, 1, 2], &[4; 4], 1), "E 3 0 63\n");
     }
 
     #[test]

@@ -40,6 +40,16 @@ pub fn radius(curve: Curve, m: u16) -> Result<usize, Outcome> {
     curve.radius(m).ok_or(Outcome::ORDER_TOO_HIGH_TO_MEND)
 }
 
+/// Refusal 15.
+pub fn places(places: &[u16], k: usize, n: usize) -> Result<(), Outcome> {
+    let ascending = places.windows(2).all(|pair| pair[0] < pair[1]);
+    let below_n = places.iter().all(|&place| usize::from(place) < n);
+    if places.len() != k || !ascending || !below_n {
+        return Err(Outcome::BAD_PLACES);
+    }
+    Ok(())
+}
+
 /// Refusal 3.
 pub fn input_length(input: &[u8], expected: usize) -> Result<(), Outcome> {
     if input.len() != expected {
@@ -109,6 +119,28 @@ mod tests {
         }
         assert_eq!(short_curve_and_order(4, 63), Ok(Curve::Q_IS_4));
         assert_eq!(short_curve_and_order(4, 64), Err(Outcome::ORDER_TOO_HIGH));
+    }
+
+    #[test]
+    fn only_k_ascending_places_below_n_are_accepted() {
+        let good: [&[u16]; 4] = [&[0, 1, 2], &[0, 3, 7], &[1, 2, 6], &[5, 6, 7]];
+        for list in good {
+            assert_eq!(places(list, 3, 8), Ok(()));
+        }
+        let bad: [&[u16]; 9] = [
+            &[],
+            &[0, 1],
+            &[0, 1, 2, 3],
+            &[0, 0, 1],
+            &[1, 2, 2],
+            &[0, 2, 1],
+            &[5, 6, 8],
+            &[5, 6, 256 + 7],
+            &[0, 1, u16::MAX],
+        ];
+        for list in bad {
+            assert_eq!(places(list, 3, 8), Err(Outcome::BAD_PLACES));
+        }
     }
 
     #[test]

@@ -6,7 +6,8 @@
 //! and recovery by Gauss elimination on one equation for each known symbol, a job
 //! by recovery from the symbols brought in so far, anew at each call, and mending
 //! by trying every message, or on the larger curve by Gauss elimination and
-//! recovery. Long blocks, q = 8, go the same way as short ones.
+//! recovery. The encoder that puts symbols at chosen places inverts the matrix of
+//! the terms' values there. Long blocks, q = 8, go the same way as short ones.
 
 #![forbid(unsafe_code)]
 
@@ -35,4 +36,6 @@ pub mod replay;
 pub mod sample;
 pub mod session;
 pub mod sixteen_bit_sample;
+pub mod systematic;
+pub mod systematic_sample;
 pub mod worked_session;

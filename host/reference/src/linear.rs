@@ -56,8 +56,41 @@ pub fn nonzero_solution(field: Field, rows: Vec<Vec<u8>>, unknowns: usize) -> Op
     Some(solution)
 }
 
-/// Brings the equations to reduced row echelon form and gives the pivots'
-/// columns by row. Their number is the rank.
+/// The inverse of a square matrix, row by row, if it has one.
+pub fn inverse(field: Field, rows: Vec<Vec<u8>>) -> Option<Vec<Vec<u8>>> {
+    let size = rows.len();
+    // Beside the matrix stands the unit matrix, which goes along.
+    let with_unit_row = |(index, row): (usize, Vec<u8>)| Equation {
+        coefficients: [row, unit_row(size, index)].concat(),
+        value: 0,
+    };
+    let mut equations: Vec<Equation> = rows.into_iter().enumerate().map(with_unit_row).collect();
+    let rank = reduce(field, &mut equations, size).len();
+    let right_half = |equation: Equation| equation.coefficients[size..].to_vec();
+    (rank == size).then(|| equations.into_iter().map(right_half).collect())
+}
+
+/// Zeros, and a 1 at one index.
+fn unit_row(length: usize, index: usize) -> Vec<u8> {
+    let mut row = vec![0; length];
+    row[index] = 1;
+    row
+}
+
+/// Each row of a matrix times the values.
+pub fn product(field: Field, rows: &[Vec<u8>], values: &[u8]) -> Vec<u8> {
+    let row_times_values = |row: &Vec<u8>| {
+        let pairs = row.iter().zip(values);
+        pairs.fold(0, |sum, (&entry, &value)| {
+            field.sum(sum, field.product(entry, value))
+        })
+    };
+    rows.iter().map(row_times_values).collect()
+}
+
+/// Brings the equations to reduced row echelon form, as far as their first
+/// `unknowns` coefficients go, and gives the pivots' columns by row. Their number
+/// is the rank.
 fn reduce(field: Field, equations: &mut [Equation], unknowns: usize) -> Vec<usize> {
     let products = field.product_rows();
     let mut pivots = Vec::new();
@@ -188,6 +221,27 @@ mod tests {
         assert_eq!(solution, Some(vec![3, 2, 1, 0]));
         assert_eq!(nonzero_solution(Field::OF_4, vec![], 1), Some(vec![1]));
         assert_eq!(nonzero_solution(Field::OF_4, vec![], 0), None);
+    }
+
+    /// Every matrix of two rows over the field of 4.
+    #[test]
+    fn an_inverse_is_found_if_there_is_one() {
+        let field = Field::OF_4;
+        for bits in 0..1 << 8 {
+            let part = |index: u32| (bits >> (2 * index) & 3) as u8;
+            let rows = vec![vec![part(0), part(1)], vec![part(2), part(3)]];
+            let determinant = field.product(part(0), part(3)) ^ field.product(part(1), part(2));
+            match inverse(field, rows.clone()) {
+                Some(inverse) => {
+                    assert_ne!(determinant, 0);
+                    for values in [[1, 0], [0, 1], [2, 3]] {
+                        let there = product(field, &rows, &values);
+                        assert_eq!(product(field, &inverse, &there), values);
+                    }
+                }
+                None => assert_eq!(determinant, 0),
+            }
+        }
     }
 
     fn solves(field: Field, system: &[Equation], values: &[u8]) -> bool {

@@ -20,6 +20,8 @@ impl Outcome {
     pub const ORDER_TOO_HIGH_TO_MEND: Outcome = Outcome::plain(12);
     pub const INVERSE_OF_ZERO: Outcome = Outcome::plain(13);
     pub const WRONG_WORK_LENGTH: Outcome = Outcome::plain(14);
+    pub const BAD_PLACES: Outcome = Outcome::plain(15);
+    pub const PLACES_LEAVE_SEVERAL: Outcome = Outcome::plain(16);
 
     const fn plain(number: u8) -> Outcome {
         Outcome { number, second: 0 }
@@ -77,6 +79,8 @@ mod tests {
             Outcome::ORDER_TOO_HIGH_TO_MEND,
             Outcome::INVERSE_OF_ZERO,
             Outcome::WRONG_WORK_LENGTH,
+            Outcome::BAD_PLACES,
+            Outcome::PLACES_LEAVE_SEVERAL,
         ];
         // Request T-01: refusal 8 no longer occurs.
         let expected = (0u8..).filter(|&number| number != 8);

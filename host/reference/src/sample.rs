@@ -1,6 +1,7 @@
 //! Arbitrary messages and words to try the code on.
 
 pub mod misleading;
+pub mod places;
 
 use crate::code::{self, MISSING};
 use crate::curve::Curve;

@@ -1,6 +1,7 @@
 -- What the functions that eliminate ask and leave.
 use mathlib.Core.Bool.{Bool, not}
 use mathlib.Core.List.{List}
+use mathlib.Core.Logic.{_⊎_}
 use mathlib.Core.Path.{_≡_}
 use Prim.Native.Nat.{ℕ, _+_, _-_, _*_, _%_, _≤_, _<_}
 use lib.Dec.{T, eqb}
@@ -14,6 +15,10 @@ use Rattle.linear.specs.inner.Combinations.{ZeroOn, clear}
 -- the entries at which high isn't 0 count
 abbrev pub marked : List ℕ → ℕ → Bool
 marked high i = not (eqb (entry high i) 0)
+
+-- marks are masks: all bits at the entries that count, none elsewhere
+abbrev pub Masks : List ℕ → Type 0
+Masks high = (i : ℕ) → (entry high i ≡ 0) ⊎ (entry high i ≡ 255)
 
 -- r is one more than the last place that counts and where v isn't 0; or 0, where v is 0 at every one
 pub record Last (high v : List ℕ) (r : ℕ) : Type 0 where

@@ -3,11 +3,10 @@
 use mathlib.Core.Path.{sym, ap, _∙_, subst}
 use Prim.Native.Nat.{ℕ, _*_}
 use denote.Ref.{now}
-use lib.ListN.{length}
 use Rattle.field.specs.inner.Halves.{halfOf}
 use Rattle.field.proofs.Fields.{fieldOf}
 use Rattle.linear.specs.inner.Eliminating.{Table}
-use Rattle.recovery.proofs.HeavyMarks.{high-long, heavy-eliminated}
+use Rattle.recovery.proofs.HeavyMarks.{high-long, heavy-masks, heavy-eliminated}
 use borrow.Author.Needs.{needs}
 use Rattle.recovery.proofs.eliminate.Statement.{statement}
 use Rattle.recovery.proofs.eliminate.Tie as tie
@@ -25,6 +24,7 @@ eliminate-requires c κs =
       (
         subst (λ (n : ℕ). Table F n (halfOf (x .q)) (now (x .low))) (sym e) (s .pre .1 .0 .0),
         subst (λ (n : ℕ). Table F n (halfOf (x .q)) (now (x .top))) (sym e) (s .pre .1 .0 .1),
+        heavy-masks (x .q) (x .m) (now (x .high)) (k .last .1 .1 .0) (k .ensures),
       ),
       ((s .pre .0 .3 ∙ ap (λ (n : ℕ). n * x .count) (sym e), s .pre .0 .4), (s .pre .1 .1 .0 ∙ sym e, s .pre .1 .1 .1)),
     )

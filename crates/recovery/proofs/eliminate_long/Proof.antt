@@ -3,7 +3,7 @@
 use mathlib.Core.Path.{refl}
 use native.Mathlib.Omega.{arith}
 use Rattle.field.proofs.Curves.{long-curve}
-use Rattle.recovery.proofs.HeavyMarks.{zero-table}
+use Rattle.linear.proofs.PivotTables.{zero-table}
 use borrow.Author.Needs.{needs}
 use Rattle.recovery.proofs.eliminate_long.Statement.{statement}
 use Rattle.recovery.proofs.eliminate_long.Tie as tie

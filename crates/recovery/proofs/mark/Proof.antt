@@ -20,7 +20,7 @@ use Rattle.recovery.proofs.mark.Tie as tie
 
 abbrev Inv-loop : tie.InvT-loop
 Inv-loop q m high₀ width order e₀ high e =
-    (e ≤ length high₀) × (length high ≡ length high₀) × (high ≡ writes high₀ e (λ e. oneIf (heavy q m e)))
+    (e ≤ length high₀) × (length high ≡ length high₀) × (high ≡ writes high₀ e (λ e. 255 * oneIf (heavy q m e)))
 
 abbrev μ-loop : tie.MeasureT-loop
 μ-loop q m high₀ width order e₀ high e = length high₀ - e

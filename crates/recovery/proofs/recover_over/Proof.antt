@@ -99,7 +99,7 @@ read-rest-requires c κs =
     let d = i .before .before .before in
     let s = d .before .before .before in
     let b = over d in
-    let long = c .before .before .before .before .eliminate-short .kept .1 .1 .1 .1 .0 ∙ s .pre .1 .1 in
+    let long = c .before .before .before .before .eliminate-short .ensures .0 .1 in
     (b .over .curve, omega (arith, b .order, b .long, short-places _ _ _ _ b (s .pre .0 .2) .1, long), omega (arith, long), omega (arith, lent i .0), s .pre .0 .1)
 
 same-length : tie.Need-same-length
@@ -117,7 +117,7 @@ returns c =
     let room : 64 * 64 ≤ length v = omega (arith, w .kept .1 .1 .1 .0) in
     let known = subst (λ (l : List ℕ). KnownGrid (x .q) l (now (x .word)) (now (x .grid))) (sym (all d)) (s .pre .1 .0) in
     sym (rest-answer _ _ _ _ (over d) (full d) 64 (short-places _ _ _ _ (over d) (s .pre .0 .2) .0) _ (w .ensures .0) v room (w .ensures .1) _ known _
-    (e .last .1 .1 .1 .0) (e .last .1 .1 .1 .1 .0) (e .kept .1 .1 .1 .1 .0 ∙ s .pre .1 .1) (e .ensures .1) (now (x .message))
+    (e .last .1 .1 .1 .0) (e .last .1 .1 .1 .1 .0) (e .ensures .0 .1) (e .ensures .1) (now (x .message))
     ∙ ap (λ (l : List ℕ). answerOf (reading (fieldOf (x .q) .size) (size (x .q) (x .m)) (wordOf (x .q) l (x .m)) (now (x .word))) (now (x .message))) (all d))
     ∙ c .before .before .read-rest .ensures
 

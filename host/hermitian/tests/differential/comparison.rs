@@ -17,10 +17,11 @@ pub enum Entry {
     Recover,
     Mend,
     RecoverLong,
+    EncodeAt,
 }
 
 impl Entry {
-    pub const COUNT: usize = 5;
+    pub const COUNT: usize = 6;
 
     pub const ALL: [Entry; Entry::COUNT] = [
         Entry::Encode,
@@ -28,9 +29,11 @@ impl Entry {
         Entry::Recover,
         Entry::Mend,
         Entry::RecoverLong,
+        Entry::EncodeAt,
     ];
 
-    /// The entries that name a curve. Only [`crate::long`] calls the other one.
+    /// The entries that name a curve and take one input. [`crate::long`] and
+    /// [`crate::encoding_at`] call the other two.
     pub const OF_CURVES: [Entry; 4] = [Entry::Encode, Entry::Unencode, Entry::Recover, Entry::Mend];
 
     pub fn name(self) -> &'static str {
@@ -40,20 +43,21 @@ impl Entry {
             Entry::Recover => "recover",
             Entry::Mend => "mend",
             Entry::RecoverLong => "long",
+            Entry::EncodeAt => "encode at",
         }
     }
 
     pub fn output_count(self) -> usize {
         match self {
-            Entry::Encode | Entry::Unencode | Entry::Recover | Entry::RecoverLong => 1,
             Entry::Mend => 3,
+            _ => 1,
         }
     }
 
     /// The length of the input that isn't refused.
     pub fn input_length(self, shape: Shape) -> usize {
         match self {
-            Entry::Encode => shape.k,
+            Entry::Encode | Entry::EncodeAt => shape.k,
             Entry::Unencode | Entry::Recover | Entry::Mend | Entry::RecoverLong => shape.n,
         }
     }
@@ -61,7 +65,7 @@ impl Entry {
     /// The lengths of the outputs that aren't refused.
     pub fn output_lengths(self, shape: Shape) -> Vec<usize> {
         match self {
-            Entry::Encode => vec![shape.n],
+            Entry::Encode | Entry::EncodeAt => vec![shape.n],
             Entry::Unencode | Entry::Recover | Entry::RecoverLong => vec![shape.k],
             Entry::Mend => vec![shape.k, shape.n, shape.n],
         }

@@ -2,42 +2,61 @@
 
 use reference::generator::Generator;
 
-const GUARD: usize = 32;
+/// Odd, so that a lent part isn't aligned for anything larger than its items.
+const GUARD: usize = 33;
 
-/// A lent part with bytes before and after it that nobody may write.
-pub struct Guarded {
-    bytes: Vec<u8>,
-    before_call: Vec<u8>,
+/// A lent part with items before and after it that nobody may write.
+pub struct Guarded<Item = u8> {
+    items: Vec<Item>,
+    before_call: Vec<Item>,
 }
 
-impl Guarded {
+/// What buffers hold.
+pub trait Arbitrary: Copy + PartialEq {
+    fn arbitrary(generator: &mut Generator) -> Self;
+}
+
+impl Arbitrary for u8 {
+    fn arbitrary(generator: &mut Generator) -> u8 {
+        generator.byte()
+    }
+}
+
+impl Arbitrary for u16 {
+    fn arbitrary(generator: &mut Generator) -> u16 {
+        generator.sixteen_bits()
+    }
+}
+
+impl<Item: Arbitrary> Guarded<Item> {
     /// The guards are arbitrary, so that writing one constant is noticed.
-    pub fn around(generator: &mut Generator, lent: &[u8]) -> Guarded {
-        let front = generator.bytes(GUARD);
-        let back = generator.bytes(GUARD);
-        let bytes = [front.as_slice(), lent, back.as_slice()].concat();
+    pub fn around(generator: &mut Generator, lent: &[Item]) -> Guarded<Item> {
+        let mut guard =
+            || -> Vec<Item> { (0..GUARD).map(|_| Item::arbitrary(generator)).collect() };
+        let (front, back) = (guard(), guard());
+        let items = [front.as_slice(), lent, back.as_slice()].concat();
         Guarded {
-            before_call: bytes.clone(),
-            bytes,
+            before_call: items.clone(),
+            items,
         }
     }
 
-    pub fn lent(&self) -> &[u8] {
-        &self.bytes[GUARD..self.bytes.len() - GUARD]
+    pub fn lent(&self) -> &[Item] {
+        &self.items[GUARD..self.items.len() - GUARD]
     }
 
-    pub fn lent_mut(&mut self) -> &mut [u8] {
-        let end = self.bytes.len() - GUARD;
-        &mut self.bytes[GUARD..end]
+    pub fn lent_mut(&mut self) -> &mut [Item] {
+        let end = self.items.len() - GUARD;
+        &mut self.items[GUARD..end]
     }
 
     pub fn is_unchanged(&self) -> bool {
-        self.bytes == self.before_call
+        self.items == self.before_call
     }
 
     pub fn guards_are_unchanged(&self) -> bool {
-        let end = self.bytes.len() - GUARD;
-        self.bytes[..GUARD] == self.before_call[..GUARD]
-            && self.bytes[end..] == self.before_call[end..]
+        let end = self.items.len() - GUARD;
+        self.items[..GUARD] == self.before_call[..GUARD]
+            && self.items[end..] == self.before_call[end..]
     }
 }

@@ -172,7 +172,7 @@ fn faulty_call(entry: Entry, shape: Shape, generator: &mut Generator) -> Call {
 /// Mostly one of n or more, near the limits of 8 and of 16 bits, or with the low byte
 /// of a good one: of the shape's own, for which the rest of the call is made, or of
 /// any other.
-fn arbitrary_order(shape: Shape, generator: &mut Generator) -> u16 {
+pub fn arbitrary_order(shape: Shape, generator: &mut Generator) -> u16 {
     let too_high = sample::numbers_too_high(shape.curve);
     let any = generator.sixteen_bits();
     let choices = [
@@ -190,7 +190,7 @@ fn arbitrary_order(shape: Shape, generator: &mut Generator) -> u16 {
 }
 
 /// Mostly near the right length or near a limit of a byte.
-fn wrong_length(right: usize, generator: &mut Generator) -> usize {
+pub fn wrong_length(right: usize, generator: &mut Generator) -> usize {
     let choices = [
         0,
         1,
@@ -211,7 +211,7 @@ fn wrong_length(right: usize, generator: &mut Generator) -> usize {
     choices[generator.below(count)]
 }
 
-fn write_arbitrary_value(input: &mut [u8], shape: Shape, generator: &mut Generator) {
+pub fn write_arbitrary_value(input: &mut [u8], shape: Shape, generator: &mut Generator) {
     let size = shape.field_size;
     let value = [size, size + 1, 127, 128, 254, MISSING, generator.byte()][generator.below(7)];
     let index = generator.below(input.len());

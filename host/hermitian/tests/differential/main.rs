@@ -2,10 +2,12 @@
 //! call. Set HERMITIAN_SEED to repeat a run.
 
 mod comparison;
+mod encoding_at;
 mod guarded;
 mod inputs;
 mod long;
 mod mending;
+mod places;
 mod tally;
 
 use std::io::Write;
@@ -18,13 +20,14 @@ use tally::Tally;
 const LEAST_CALLS: u64 = 200_000;
 const LEAST_MEND_CALLS: u64 = 100_000;
 const LEAST_LONG_RECOVERIES: u64 = 70_000;
+const LEAST_CALLS_WITH_PLACES: u64 = 100_000;
 
 type Group = (&'static str, fn(&mut Generator) -> Tally);
 
 /// The mix follows what the reference costs: some microseconds at q = 2, up
 /// to some milliseconds at the high orders of q = 4, and up to 0.1 s for one
 /// elimination at q = 8.
-const GROUPS: [Group; 14] = [
+const GROUPS: [Group; 20] = [
     ("every order", |g| inputs::at_every_order(g, 12)),
     ("strap blocks", |g| inputs::strap_blocks(g, 3_250)),
     ("faulty calls", |g| inputs::faulty(g, 80_000)),
@@ -39,6 +42,15 @@ const GROUPS: [Group; 14] = [
     ("long, missing symbols", |g| long::missing_symbols(g, 5)),
     ("long, faulty calls", |g| long::faulty(g, 9_000)),
     ("long, every m", long::every_order_of_16_bits),
+    ("places, every order", |g| places::at_every_order(g, 10)),
+    ("places, strap blocks", |g| places::strap_blocks(g, 500)),
+    ("places, faulty calls", |g| places::faulty(g, 30_000)),
+    ("places, every fault", places::every_fault),
+    (
+        "places, every q and m",
+        places::every_curve_number_and_order,
+    ),
+    ("places, small blocks", places::every_small_set),
 ];
 
 #[test]
@@ -53,6 +65,7 @@ fn the_library_answers_as_the_reference() {
     assert!(all.total() >= LEAST_CALLS);
     assert!(all.calls_of(Entry::Mend) >= LEAST_MEND_CALLS);
     assert!(all.calls_of(Entry::RecoverLong) >= LEAST_LONG_RECOVERIES);
+    assert!(all.calls_of(Entry::EncodeAt) >= LEAST_CALLS_WITH_PLACES);
     every_answer_occurred(&all);
     every_order_was_accepted(&all);
 }
@@ -97,17 +110,19 @@ fn say(line: &str) {
 /// Refusals 6 and 7 are those of sessions, which have no C entry; 8 no longer
 /// occurs; a message always has a word; a whole word never leaves several
 /// messages; 11 and 12 are those of mending, which has no 9 and no 10; 13 is the
-/// field's; 14 is that of long recovery, which names no curve and so has no 1.
+/// field's; 14 is that of long recovery, which names no curve and so has no 1; 15 and
+/// 16 are those of encoding at places, where k symbols always have a word otherwise.
 fn every_answer_occurred(tally: &Tally) {
     for entry in Entry::ALL {
-        for number in 0..=14 {
+        for number in 0..=16 {
             let possible = match number {
                 1 => entry != Entry::RecoverLong,
                 0..=5 => true,
-                9 => !matches!(entry, Entry::Encode | Entry::Mend),
+                9 => !matches!(entry, Entry::Encode | Entry::EncodeAt | Entry::Mend),
                 10 => matches!(entry, Entry::Recover | Entry::RecoverLong),
                 11 | 12 => entry == Entry::Mend,
                 14 => entry == Entry::RecoverLong,
+                15 | 16 => entry == Entry::EncodeAt,
                 _ => false,
             };
             let count = tally.of(entry, number);
@@ -124,7 +139,7 @@ fn every_order_was_accepted(tally: &Tally) {
             for m in 0..n {
                 let possible = match entry {
                     Entry::Encode | Entry::Unencode => true,
-                    Entry::Recover => q != 8,
+                    Entry::EncodeAt | Entry::Recover => q != 8,
                     Entry::Mend => q != 8 && m < n - g,
                     Entry::RecoverLong => q == 8,
                 };

@@ -4,7 +4,7 @@ use std::fmt;
 
 use crate::comparison::Entry;
 
-const NUMBERS: usize = 15;
+const NUMBERS: usize = 17;
 const CURVES: usize = 3;
 const ORDERS: usize = 512;
 

@@ -12,6 +12,7 @@ use reference::mend_sample::mend_cases;
 use reference::sample::{self, Shape, BAD_CURVES, BAD_ORDERS, ROUNDS};
 use reference::session::{Session, CONFLICT, PLACE_COUNT};
 use reference::sixteen_bit_sample::sixteen_bit_cases;
+use reference::systematic_sample::systematic_cases;
 use reference::worked_session::worked_sessions;
 use std::process::ExitCode;
 
@@ -25,10 +26,18 @@ fn main() -> ExitCode {
     file_pair::write_to_arguments("cases CASE_FILE EXPECTED_FILE", &records, &expected)
 }
 
+/// Those from before request T-10 come first: that they and their lines stay as they
+/// were shows that the older calls give what they gave.
+fn all_cases() -> Vec<Case> {
+    let mut cases = cases_before_chosen_places();
+    cases.extend(systematic_cases());
+    cases
+}
+
 /// Those from before request T-09 come first: that they and their lines stay as they
 /// were, but for the calls that take q = 8 now, shows that short blocks give what they
 /// gave.
-fn all_cases() -> Vec<Case> {
+fn cases_before_chosen_places() -> Vec<Case> {
     let mut cases = cases_before_long_blocks();
     cases.extend(long_curve_cases());
     cases
@@ -618,9 +627,9 @@ mod tests {
     }
 
     #[test]
-    fn there_are_about_27000_cases_and_each_fits_its_record() {
+    fn there_are_about_29000_cases_and_each_fits_its_record() {
         let cases = all_cases();
-        assert!((26000..=28000).contains(&cases.len()), "{}", cases.len());
+        assert!((28000..=30000).contains(&cases.len()), "{}", cases.len());
         for case in &cases {
             let record: [u8; RECORD_LENGTH] = case.to_record();
             assert_eq!(&Case::from_record(&record), case);
@@ -652,6 +661,18 @@ mod tests {
         let now: String = before.iter().map(|case| runner.run(case)).collect();
         let changed = lines.lines().zip(now.lines()).filter(|(a, b)| a != b);
         assert_eq!(changed.count(), 40);
+    }
+
+    /// The cases from before request T-10 and their lines, by number and checksum.
+    #[test]
+    fn the_cases_before_chosen_places_come_first_and_are_unchanged() {
+        let before = cases_before_chosen_places();
+        assert_eq!(before.len(), 26_759);
+        assert_eq!(all_cases()[..26_759], before);
+        assert_eq!(checksum(&records(&before)), 0x9833_9149_6A4C_8F82);
+        let mut runner = Runner::default();
+        let lines: String = before.iter().map(|case| runner.run(case)).collect();
+        assert_eq!(checksum(lines.as_bytes()), 0xFA67_B56B_44F0_F78A);
     }
 
     fn records(cases: &[Case]) -> Vec<u8> {
@@ -740,6 +761,7 @@ mod tests {
             ("y", vec![0]),
             ("p", vec![0, 1, 2, 5, 9, 10]),
             ("t", vec![0, 1, 2, 3, 4, 5, 9, 10]),
+            ("E", vec![0, 1, 2, 3, 4, 5, 15, 16]),
         ];
         possible
             .into_iter()

@@ -34,7 +34,7 @@ loop-holds : tie.Need-loop-holds Inv-loop μ-loop
 loop-holds c =
     let s = c .before .before .before .before .before in (
       (refl, refl),
-      s .pre .0,
+      (s .pre .0 .0, s .pre .0 .1),
       eliminating-none (fieldOf (s .args .q)) (s .args .count) (s .args .high .now) (s .args .vectors .now) (s .args .grid .now) (s .pre .1 .0 .0)
           (s .pre .1 .0 .1) (s .pre .1 .1 .1),
     )
@@ -58,7 +58,7 @@ step-requires : tie.Need-step-requires Inv-loop μ-loop
 step-requires c κs =
     let s = c .before .before .before .before .before .before .before .before .before .before .before in
     let l = c .before .before .before .before .before .loop in (
-      l .inv .1,
+      (l .inv .1 .0, l .inv .1 .1, s .pre .0 .2),
       (
         (
           rest-long (fieldOf (s .args .q)) (s .args .count) (s .args .high .now) (s .args .vectors .now) (s .args .grid .now) (s .pre .1 .0 .0)

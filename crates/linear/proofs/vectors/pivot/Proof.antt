@@ -2,7 +2,9 @@
 -- Assumes nothing.
 use Prim.Native.Nat.{_-_}
 use native.Mathlib.Omega.{arith}
-use Rattle.linear.proofs.Eliminating.{Searching, marked-not, searching-none, searching-turn, searching-end, searching-found}
+use denote.Ref.{now}
+use lib.ListN.{getD}
+use Rattle.linear.proofs.Eliminating.{Searching, mask-some, mask-none, marked-not, searching-none, searching-turn, searching-end, searching-found}
 use Rattle.linear.proofs.vectors.pivot.Statement.{statement}
 use Rattle.linear.proofs.vectors.pivot.Tie as tie
 
@@ -21,27 +23,28 @@ sub-i c = omega arith
 shared-slice-read-if1 : tie.Need-shared-slice-read-if1 Inv-loop μ-loop
 shared-slice-read-if1 c = omega (arith, c .before .before .loop .inv .within)
 
-shared-slice-read-if2 : tie.Need-shared-slice-read-if2 Inv-loop μ-loop
-shared-slice-read-if2 c = omega (arith, c .before .before .before .before .loop .inv .within, c .before .before .before .before .before .pre)
+shared-slice-read-if1-2 : tie.Need-shared-slice-read-if1-2 Inv-loop μ-loop
+shared-slice-read-if1-2 c = omega (arith, c .before .before .before .loop .inv .within, c .before .before .before .before .pre .0)
 
 returns : tie.Need-returns Inv-loop μ-loop
 returns c =
-    searching-found _ _ _ (c .before .before .before .before .before .loop .inv) (omega arith) (c .before .before .if1 .taken) (c .if2 .taken)
+    let l = c .before .before .before .before .loop in
+    let s = c .before .before .before .before .before in
+    let i = l .p - 1 in
+    let f = mask-some (getD (now (s .args .high)) i 0) (getD (now (s .args .v)) i 0) (s .pre .1 i) (omega (arith, c .before .shared-slice-known2 .given i)) (c .if1 .taken) in
+    searching-found _ _ _ (l .inv) (omega arith) (f .0) (f .1)
 
 loop-less : tie.Need-loop-less Inv-loop μ-loop
 loop-less c = omega arith
 
 loop-again : tie.Need-loop-again Inv-loop μ-loop
-loop-again c = searching-turn _ _ _ (c .before .before .before .before .before .loop .inv) (omega arith) (λ t. c .if2 .left)
-
-loop-less-2 : tie.Need-loop-less-2 Inv-loop μ-loop
-loop-less-2 c = omega arith
-
-loop-again-2 : tie.Need-loop-again-2 Inv-loop μ-loop
-loop-again-2 c =
-    let l = c .before .before .before .loop in
+loop-again c =
+    let l = c .before .before .before .before .loop in
+    let s = c .before .before .before .before .before in
+    let i = l .p - 1 in
     searching-turn _ _ _ (l .inv) (omega arith)
-    (λ t. absurd (marked-not (c .before .before .before .before .args .high .now) (l .p - 1) (c .if1 .left) t))
+    (λ t. mask-none (getD (now (s .args .high)) i 0) (getD (now (s .args .v)) i 0) (s .pre .1 i) (omega (arith, c .before .shared-slice-known2 .given i)) (c .if1 .left)
+    (λ e. marked-not (now (s .args .high)) i e t))
 
 returns-2 : tie.Need-returns-2 Inv-loop μ-loop
 returns-2 c = searching-end _ _ _ (c .before .loop .inv) (omega arith)
@@ -55,10 +58,8 @@ pivot-spec =
     loop-holds
     sub-i
     shared-slice-read-if1
-    shared-slice-read-if2
+    shared-slice-read-if1-2
     returns
     loop-less
     loop-again
-    loop-less-2
-    loop-again-2
     returns-2)

@@ -24,7 +24,7 @@ slice-aggregate-pivot : tie.Need-slice-aggregate-pivot
 slice-aggregate-pivot c = first-is c
 
 pivot-requires : tie.Need-pivot-requires
-pivot-requires c κs = first-is c
+pivot-requires c κs = (first-is c, c .before .before .before .before .before .before .pre .0 .2)
 
 same-length : tie.Need-same-length
 same-length c = search needs
@@ -33,7 +33,7 @@ returns : tie.Need-returns
 returns c =
     let s = c .before .before .before .before .before .before .before .before in
     let p = c .before .pivot in (
-      s .pre .0,
+      (s .pre .0 .0, s .pre .0 .1),
       stepped-none (s .args .high .now) (s .args .vectors .now) (p .result) (p .ensures) (fieldOf (s .args .q)) (s .args .count) (s .args .grid .now)
           (c .if1 .taken),
     )

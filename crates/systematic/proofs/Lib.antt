@@ -1,0 +1,11 @@
+pub mod PlaceLists
+pub mod Tests
+pub mod InformationSets
+pub mod TermRows
+pub mod TermSystems
+pub mod Completions
+pub mod Checking
+pub mod Encodings
+pub mod FewColumns
+pub mod Staircases
+pub mod HighOrders

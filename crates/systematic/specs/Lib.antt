@@ -1,0 +1,5 @@
+pub mod Places
+pub mod InformationSets
+pub mod Staircases
+pub mod EncodedAt
+pub mod inner

@@ -1,0 +1,2 @@
+pub mod TermWords
+pub mod Completing

@@ -9,3 +9,4 @@ pub mod Encodings
 pub mod FewColumns
 pub mod Staircases
 pub mod HighOrders
+pub mod EncodedValues

@@ -24,7 +24,7 @@ encodeAtChecks q m places symbols room =
     (refuse (not (goodPlaces k n places)) BadPlaces
     (sliceChecks false (curveOf q .symbols) k symbols n room Done))
 
--- "16: places that don't fix the codeword, tested last". Where they do, just one codeword has the symbols: `only-codeword`
+-- "16: places that don't fix the codeword, tested last". Where they do, just one codeword has the symbols: `encodes` (`proofs/Encodings`)
 abbrev pub theCodeword : List (List ℕ) → List ℕ → Answer
 theCodeword [] slice = answered NoInformationSet slice
 theCodeword (word ∷ rest) slice = answered Done word

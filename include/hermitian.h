@@ -1,14 +1,15 @@
 /*
- * Hermitian block code of the strap link: the six entries that C calls.
+ * Hermitian block code of the strap link: the seven entries that C calls.
  *
  * The library turns a message of k symbols into a word of n symbols (a codeword:
  * values of a polynomial at the n points of a Hermitian curve), or finds the word
  * that has k given symbols at k chosen places; it reads whole words back, recovers
- * messages from words with missing symbols, and mends whole words with wrong
- * symbols. It is written and proved in Rattle: on memory lent as described under
- * "Memory" below, every call returns, stays within its buffers and gives the one
- * answer of the rules. Only hermitian_mend corrects wrong symbols; the other calls
- * that read words say when no message fits.
+ * messages from words with missing symbols, mends whole words with wrong symbols,
+ * and turns words of one strap series into words of the other. It is written and
+ * proved in Rattle: on memory lent as described under "Memory" below, every call
+ * returns, stays within its buffers and gives the one answer of the rules. Only
+ * hermitian_mend corrects wrong symbols; unencode and the two recoveries say when no
+ * message fits.
  *
  *   q   blocks         n, length of a word   symbols     order m
  *   2   short            8                   0 to 3      0 to 7
@@ -20,13 +21,26 @@
  * enough to recover its message; fewer may be. Up to t wrong symbols of a whole
  * word of a short block are always mended, t being 10 for the strap.
  *
- * hermitian_encode and hermitian_unencode take all three q. Long blocks are
- * recovered by hermitian_recover_long, which takes no q and is lent memory to work
- * in; hermitian_encode_at, hermitian_recover and hermitian_mend take short blocks
- * only and refuse q = 8.
+ * hermitian_encode, hermitian_unencode and hermitian_convert take all three q. Long
+ * blocks are recovered by hermitian_recover_long, which takes no q and is lent memory
+ * to work in; hermitian_encode_at, hermitian_recover and hermitian_mend take short
+ * blocks only and refuse q = 8.
  *
- * An m of n or more, up to 65535, is refused. Earlier m was a uint8_t: a value up to
- * 255 means what it meant, but callers compiled then must be compiled anew.
+ * Series. The places of a word are the points of the curve, column by column, the q
+ * points of a column by y ascending. A column has one x, and each strap series lists
+ * the columns in an order of its own:
+ *
+ *   1   x = 0, 1, 2, 3 and so on
+ *   2   x = 0, then the powers of z, the symbol 2, from the power 0 on; for q = 4
+ *       that is 0 1 2 4 8 3 6 12 11 5 10 7 14 15 13 9
+ *
+ * For q = 2 these are the same list. Each call names the series, 1 or 2, of its places
+ * and words; messages have none. hermitian_convert turns a word of one series into that
+ * of the other.
+ *
+ * An m of n or more, up to 65535, is refused. Earlier m was a uint8_t and no series was
+ * named: a value up to 255 means what it meant, and series 1 gives what the calls gave,
+ * but callers compiled then must be compiled anew.
  *
  * Memory. The library trusts these four points and can't check them:
  *   - Each pointer is good for as many bytes as the length beside it says; that to
@@ -45,9 +59,9 @@
  * Threads. There is no state outside a call: no globals, no heap, no setup. Any
  * number of threads may call at once, each with output buffers of its own; they
  * may share an input. As built now, a call on a short block takes less than
- * 12 KiB of stack (measured and not proved, in bytes: to encode at places 12096, and
- * 7024 for an m up to 37; 10320 to mend, and of the other calls 6400 at most, to
- * recover), one on a long block less than 13 KiB; from the platform it needs memcpy
+ * 12 KiB of stack (measured and not proved, in bytes: to encode at places 12144, and
+ * 7040 for q = 4 and an m up to 37; 10336 to mend, and of the other calls 6480 at most,
+ * to recover), one on a long block less than 14 KiB; from the platform it needs memcpy
  * and memset.
  *
  * Linking. `rt staticlib hermitian` writes target/staticlib/libhermitian.a, for
@@ -65,18 +79,18 @@
 extern "C" {
 #endif
 
-/* Stands for a missing symbol; allowed in the words of hermitian_recover and
-   hermitian_recover_long only. */
+/* Stands for a missing symbol; allowed in the words of hermitian_recover,
+   hermitian_recover_long and hermitian_convert only. */
 #define HERMITIAN_MISSING 255
 
 /* The bytes that hermitian_recover_long is lent to work in. */
 #define HERMITIAN_WORK_LENGTH 262144
 
 /*
- * Why a call was refused. The checks run in this order, only 12 and 15 come right
- * after 2 and 14 right after 5, and the first that applies decides. 6 and 7 belong
- * to receiving sessions and 13 to the field's inverse, which C doesn't call; the
- * entries below never give them. 8 no longer occurs.
+ * Why a call was refused. The checks run in this order, only 17 comes right after 1,
+ * 12 and 15 right after 2 and 14 right after 5, and the first that applies decides. 6
+ * and 7 belong to receiving sessions and 13 to the field's inverse, which C doesn't
+ * call; the entries below never give them. 8 no longer occurs.
  */
 enum hermitian_refusal {
     HERMITIAN_DONE = 0,
@@ -118,35 +132,38 @@ enum hermitian_refusal {
     HERMITIAN_BAD_PLACES = 15,
     /* The places don't fix the codeword: two codewords agree on all of them,
        whichever symbols come along. Only from encode_at, last. */
-    HERMITIAN_PLACES_LEAVE_SEVERAL = 16
+    HERMITIAN_PLACES_LEAVE_SEVERAL = 16,
+    /* The series is neither 1 nor 2. After 1; the first check of recover_long. */
+    HERMITIAN_BAD_SERIES = 17
 };
 
 /* Writes the word of a message: message_length must be k, word_length n. */
-uint32_t hermitian_encode(uint8_t q, uint16_t m,
+uint32_t hermitian_encode(uint8_t q, uint8_t series, uint16_t m,
                           const uint8_t *message, size_t message_length,
                           uint8_t *word, size_t word_length);
 
 /* Writes the only word of a short block that has symbols[i] at place places[i], for
    all i: count and symbol_count must be k, word_length n. The places ascend strictly
-   and are below n; place q * x + i is point i, from 0, of column x. Which sets of k
-   places will do depends on q and m alone, not on the symbols. The word is a codeword
-   like any other, and its message, which hermitian_unencode gives, isn't the symbols.
-   HERMITIAN_MISSING counts as a bad value here. */
-uint32_t hermitian_encode_at(uint8_t q, uint16_t m,
+   and are below n; place q * c + i is point i of column c, both from 0, in the list of
+   the series. Which sets of k places will do depends on q, the series and m alone, not
+   on the symbols. The word is a codeword like any other, and its message, which
+   hermitian_unencode gives, isn't the symbols. HERMITIAN_MISSING counts as a bad value
+   here. */
+uint32_t hermitian_encode_at(uint8_t q, uint8_t series, uint16_t m,
                              const uint16_t *places, size_t count,
                              const uint8_t *symbols, size_t symbol_count,
                              uint8_t *word, size_t word_length);
 
 /* Writes the message of a whole word: word_length must be n, message_length k.
    HERMITIAN_MISSING counts as a bad value here. */
-uint32_t hermitian_unencode(uint8_t q, uint16_t m,
+uint32_t hermitian_unencode(uint8_t q, uint8_t series, uint16_t m,
                             const uint8_t *word, size_t word_length,
                             uint8_t *message, size_t message_length);
 
 /* Writes the only message that fits a word of a short block in which
    HERMITIAN_MISSING stands at each missing place: word_length must be n,
    message_length k. */
-uint32_t hermitian_recover(uint8_t q, uint16_t m,
+uint32_t hermitian_recover(uint8_t q, uint8_t series, uint16_t m,
                            const uint8_t *word, size_t word_length,
                            uint8_t *message, size_t message_length);
 
@@ -154,23 +171,29 @@ uint32_t hermitian_recover(uint8_t q, uint16_t m,
    HERMITIAN_MISSING stands at each missing place: word_length must be 512,
    message_length k of q = 8, work_length HERMITIAN_WORK_LENGTH. It needs nothing of
    what the work memory holds. */
-uint32_t hermitian_recover_long(uint16_t m,
+uint32_t hermitian_recover_long(uint8_t series, uint16_t m,
                                 const uint8_t *word, size_t word_length,
                                 uint8_t *message, size_t message_length,
                                 uint8_t *work, size_t work_length);
 
-/* Mends a whole word of a short block with wrong symbols: finds the only codeword that differs
-   from it in at most t places, t being n - m - 1 - g halved and rounded down, where
-   g is 1 (q = 2) or 6 (q = 4); at t = 0 only codewords pass. Writes its message,
-   the codeword, and n marks, 1 where a symbol was changed and 0 elsewhere: the
-   count of changes is that of the ones. word_length, mended_length and
-   marks_length must be n, message_length k. HERMITIAN_MISSING counts as a bad
-   value here. */
-uint32_t hermitian_mend(uint8_t q, uint16_t m,
+/* Mends a whole word of a short block with wrong symbols: finds the only codeword that
+   differs from it in at most t places, t being n - m - 1 - g halved and rounded down,
+   where g is 1 (q = 2) or 6 (q = 4); at t = 0 only codewords pass. Writes its message,
+   the codeword, and n marks, 1 where a symbol was changed and 0 elsewhere: the count of
+   changes is that of the ones. word_length, mended_length and marks_length must be n,
+   message_length k. HERMITIAN_MISSING counts as a bad value here. */
+uint32_t hermitian_mend(uint8_t q, uint8_t series, uint16_t m,
                         const uint8_t *word, size_t word_length,
                         uint8_t *message, size_t message_length,
                         uint8_t *mended, size_t mended_length,
                         uint8_t *marks, size_t marks_length);
+
+/* Writes a word of the named series as the word of the other one: each point keeps its
+   symbol or HERMITIAN_MISSING. word_length and out_length must be n. The word may hold
+   any symbols; that of a message becomes the message's word in the other series. */
+uint32_t hermitian_convert(uint8_t q, uint8_t series,
+                           const uint8_t *word, size_t word_length,
+                           uint8_t *out, size_t out_length);
 
 /* What a call returned is 0 if it was done; otherwise it is the refusal number
    times 65536 plus the second number, which is 0 unless said above. */

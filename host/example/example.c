@@ -1,12 +1,13 @@
 /* One message on its way: encoded, partly lost, recovered, and with wrong symbols
  * mended; then what a refusal looks like; then a payload that can be read without a
- * decoder; then a long block. Returns 1 if anything isn't as it should be. */
+ * decoder; then a block of a series 2 strap; then a long block. Returns 1 if anything
+ * isn't as it should be. */
 #include <stdio.h>
 #include <string.h>
 
 #include "hermitian.h"
 
-enum { Q = 4, M = 37, K = 32, N = 64 };
+enum { Q = 4, SERIES = 1, M = 37, K = 32, N = 64 };
 enum { LONG_Q = 8, LONG_M = 300, LONG_K = 273, LONG_N = 512 };
 
 static int failures = 0;
@@ -73,6 +74,9 @@ static void explain(uint32_t answer) {
     case HERMITIAN_PLACES_LEAVE_SEVERAL:
         puts("  refused: the places don't fix the codeword at this order");
         break;
+    case HERMITIAN_BAD_SERIES:
+        puts("  refused: the series must be 1 or 2");
+        break;
     default:
         printf("  refused: number %u, which this program doesn't know\n",
                hermitian_number(answer));
@@ -102,9 +106,11 @@ static void damage(uint8_t word[N], size_t count) {
 
 static void encode_and_unencode(const uint8_t message[K], uint8_t word[N]) {
     uint8_t read[K] = {0};
-    expect(hermitian_encode(Q, M, message, K, word, N) == HERMITIAN_DONE, "the message is encoded");
+    expect(hermitian_encode(Q, SERIES, M, message, K, word, N) == HERMITIAN_DONE,
+           "the message is encoded");
     show("word:     ", word, N);
-    expect(hermitian_unencode(Q, M, word, N, read, K) == HERMITIAN_DONE, "the word is unencoded");
+    expect(hermitian_unencode(Q, SERIES, M, word, N, read, K) == HERMITIAN_DONE,
+           "the word is unencoded");
     expect(memcmp(read, message, K) == 0, "the message came back");
 }
 
@@ -114,7 +120,7 @@ static void lose_and_recover(const uint8_t message[K], const uint8_t word[N]) {
     memcpy(broken, word, N);
     lose(broken, 26);
     show("arrived:  ", broken, N);
-    expect(hermitian_recover(Q, M, broken, N, read, K) == HERMITIAN_DONE,
+    expect(hermitian_recover(Q, SERIES, M, broken, N, read, K) == HERMITIAN_DONE,
            "the message is recovered with 26 symbols missing");
     expect(memcmp(read, message, K) == 0, "it is the message that was sent");
 }
@@ -128,7 +134,7 @@ static void damage_and_mend(const uint8_t message[K], const uint8_t word[N]) {
     memcpy(wrong, word, N);
     damage(wrong, 10);
     show("arrived:  ", wrong, N);
-    expect(hermitian_mend(Q, M, wrong, N, read, K, mended, N, marks, N) == HERMITIAN_DONE,
+    expect(hermitian_mend(Q, SERIES, M, wrong, N, read, K, mended, N, marks, N) == HERMITIAN_DONE,
            "the word is mended with 10 symbols wrong");
     show("mended:   ", mended, N);
     show("changed:  ", marks, N);
@@ -140,7 +146,7 @@ static void damage_and_mend(const uint8_t message[K], const uint8_t word[N]) {
 
     memcpy(wrong, word, N);
     damage(wrong, 14);
-    uint32_t answer = hermitian_mend(Q, M, wrong, N, read, K, mended, N, marks, N);
+    uint32_t answer = hermitian_mend(Q, SERIES, M, wrong, N, read, K, mended, N, marks, N);
     explain(answer);
     expect(hermitian_number(answer) == HERMITIAN_NO_CODEWORD_NEAR, "14 wrong symbols are too many");
 }
@@ -154,7 +160,7 @@ static void refuse(const uint8_t word[N]) {
     memset(untouched, 0xAA, K);
     lose(broken, 40);
     show("arrived:  ", broken, N);
-    uint32_t answer = hermitian_recover(Q, M, broken, N, read, K);
+    uint32_t answer = hermitian_recover(Q, SERIES, M, broken, N, read, K);
     explain(answer);
     expect(hermitian_number(answer) == HERMITIAN_SEVERAL_MESSAGES_FIT &&
                hermitian_second(answer) == 8,
@@ -162,17 +168,17 @@ static void refuse(const uint8_t word[N]) {
 
     memcpy(broken, word, N);
     broken[9] ^= 1;
-    answer = hermitian_recover(Q, M, broken, N, read, K);
+    answer = hermitian_recover(Q, SERIES, M, broken, N, read, K);
     explain(answer);
     expect(hermitian_number(answer) == HERMITIAN_NO_MESSAGE_FITS, "a wrong symbol is noticed");
 
     broken[9] = 16;
-    answer = hermitian_unencode(Q, M, broken, N, read, K);
+    answer = hermitian_unencode(Q, SERIES, M, broken, N, read, K);
     explain(answer);
     expect(hermitian_number(answer) == HERMITIAN_NOT_A_SYMBOL && hermitian_second(answer) == 9,
            "the bad byte is named");
 
-    answer = hermitian_recover(Q, 256 + M, word, N, read, K);
+    answer = hermitian_recover(Q, SERIES, 256 + M, word, N, read, K);
     explain(answer);
     expect(hermitian_number(answer) == HERMITIAN_ORDER_TOO_HIGH,
            "an order of 293 isn't taken for 37, its low byte");
@@ -219,7 +225,7 @@ static void send_in_clear(const uint8_t payload[K]) {
     uint8_t again[N] = {0};
     uint8_t message[K] = {0};
     uint8_t read[K] = {0};
-    expect(hermitian_encode_at(Q, M, PLACES, K, payload, K, word, N) == HERMITIAN_DONE,
+    expect(hermitian_encode_at(Q, SERIES, M, PLACES, K, payload, K, word, N) == HERMITIAN_DONE,
            "a word is found that has a payload at fixed places");
     show("payload:  ", payload, K);
     show_columns(word);
@@ -229,8 +235,8 @@ static void send_in_clear(const uint8_t payload[K]) {
     memcpy(again, word, N);
     lose(again, 26);
     show("arrived:  ", again, N);
-    expect(hermitian_recover(Q, M, again, N, message, K) == HERMITIAN_DONE &&
-               hermitian_encode(Q, M, message, K, again, N) == HERMITIAN_DONE &&
+    expect(hermitian_recover(Q, SERIES, M, again, N, message, K) == HERMITIAN_DONE &&
+               hermitian_encode(Q, SERIES, M, message, K, again, N) == HERMITIAN_DONE &&
                memcmp(again, word, N) == 0,
            "the word is recovered like any other with 26 symbols missing");
 
@@ -238,11 +244,60 @@ static void send_in_clear(const uint8_t payload[K]) {
     for (size_t i = 0; i < K; i++) {
         eight_columns[i] = (uint16_t)i;
     }
-    uint32_t answer = hermitian_encode_at(Q, M, eight_columns, K, payload, K, word, N);
+    uint32_t answer = hermitian_encode_at(Q, SERIES, M, eight_columns, K, payload, K, word, N);
     explain(answer);
     expect(hermitian_number(answer) == HERMITIAN_PLACES_LEAVE_SEVERAL,
            "two codewords agree on the first eight columns");
     expect(memcmp(again, word, N) == 0, "the refusal left the word as it was");
+}
+
+/* The columns of series 2: 0, then z to the power 0, 1, 2 and so on. */
+static const uint8_t COLUMNS[Q * Q] = {0, 1, 2, 4, 8, 3, 6, 12, 11, 5, 10, 7, 14, 15, 13, 9};
+
+/* The message 0 1 of order 4 is x: in its word each column holds its own x. */
+static void show_columns_of_series_2(void) {
+    static const uint8_t x[2] = {0, 1};
+    uint8_t word[N] = {0};
+    uint8_t columns[Q * Q];
+    uint32_t answer = hermitian_encode(Q, 2, 4, x, 2, word, N);
+    for (size_t column = 0; column < Q * Q; column++) {
+        columns[column] = word[Q * column];
+    }
+    show("columns:  ", columns, Q * Q);
+    expect(answer == HERMITIAN_DONE && memcmp(columns, COLUMNS, Q * Q) == 0,
+           "series 2 lists the columns as 0 and the powers of z");
+}
+
+static void send_from_series_2(const uint8_t message[K], const uint8_t word_of_series_1[N]) {
+    uint8_t sent[N] = {0};
+    uint8_t converted[N] = {0};
+    uint8_t before[N];
+    uint8_t read[K] = {0};
+    show_columns_of_series_2();
+    expect(hermitian_encode(Q, 2, M, message, K, sent, N) == HERMITIAN_DONE,
+           "the message is encoded by a strap of series 2");
+    show("series 2: ", sent, N);
+    expect(hermitian_convert(Q, 2, sent, N, converted, N) == HERMITIAN_DONE,
+           "its word is converted to series 1");
+    show("series 1: ", converted, N);
+    expect(memcmp(converted, word_of_series_1, N) == 0,
+           "the symbols are those of encoding in series 1");
+
+    lose(sent, 26);
+    show("series 2: ", sent, N);
+    expect(hermitian_convert(Q, 2, sent, N, converted, N) == HERMITIAN_DONE,
+           "the word is converted with 26 symbols missing");
+    show("series 1: ", converted, N);
+    expect(hermitian_recover(Q, 1, M, converted, N, read, K) == HERMITIAN_DONE &&
+               memcmp(read, message, K) == 0,
+           "the message is recovered in series 1");
+
+    memcpy(before, converted, N);
+    uint32_t answer = hermitian_convert(Q, 3, sent, N, converted, N);
+    explain(answer);
+    expect(hermitian_number(answer) == HERMITIAN_BAD_SERIES && hermitian_second(answer) == 0,
+           "there is no series 3");
+    expect(memcmp(before, converted, N) == 0, "the refusal left the word as it was");
 }
 
 /* The memory that long blocks are recovered in, too large for some stacks. */
@@ -258,7 +313,7 @@ static void lose_of_long_block(uint8_t word[LONG_N], size_t count) {
 
 static uint32_t recover_long_block(const uint8_t word[LONG_N], uint8_t read[LONG_K]) {
     memset(read, 0xAA, LONG_K);
-    return hermitian_recover_long(LONG_M, word, LONG_N, read, LONG_K, work, sizeof work);
+    return hermitian_recover_long(SERIES, LONG_M, word, LONG_N, read, LONG_K, work, sizeof work);
 }
 
 static void lose_and_recover_long_block(void) {
@@ -273,21 +328,21 @@ static void lose_and_recover_long_block(void) {
     expect(hermitian_message_length(LONG_Q, LONG_M) == LONG_K &&
                hermitian_word_length(LONG_Q) == LONG_N,
            "the lengths of a long block of order 300 are 273 and 512");
-    expect(hermitian_encode(LONG_Q, LONG_M, message, LONG_K, word, LONG_N) == HERMITIAN_DONE,
-           "a long message is encoded");
-    expect(hermitian_unencode(LONG_Q, LONG_M, word, LONG_N, read, LONG_K) == HERMITIAN_DONE &&
-               memcmp(read, message, LONG_K) == 0,
+    uint32_t answer = hermitian_encode(LONG_Q, SERIES, LONG_M, message, LONG_K, word, LONG_N);
+    expect(answer == HERMITIAN_DONE, "a long message is encoded");
+    answer = hermitian_unencode(LONG_Q, SERIES, LONG_M, word, LONG_N, read, LONG_K);
+    expect(answer == HERMITIAN_DONE && memcmp(read, message, LONG_K) == 0,
            "the long word is unencoded");
 
     lose_of_long_block(word, 211);
     expect(recover_long_block(word, read) == HERMITIAN_DONE && memcmp(read, message, LONG_K) == 0,
            "the long message is recovered with 211 symbols missing");
 
-    uint32_t answer = hermitian_recover_long(LONG_M, word, LONG_N, read, LONG_K, work, 1);
+    answer = hermitian_recover_long(SERIES, LONG_M, word, LONG_N, read, LONG_K, work, 1);
     explain(answer);
     expect(hermitian_number(answer) == HERMITIAN_WRONG_WORK_LENGTH, "one byte is too little to work in");
 
-    answer = hermitian_recover(LONG_Q, LONG_M, word, LONG_N, read, LONG_K);
+    answer = hermitian_recover(LONG_Q, SERIES, LONG_M, word, LONG_N, read, LONG_K);
     explain(answer);
     expect(hermitian_number(answer) == HERMITIAN_UNKNOWN_CURVE,
            "plain recovery takes short blocks only");
@@ -313,6 +368,7 @@ int main(void) {
     damage_and_mend(message, word);
     refuse(word);
     send_in_clear(message);
+    send_from_series_2(message, word);
     lose_and_recover_long_block();
     puts(failures == 0 ? "all as expected" : "SOMETHING FAILED");
     return failures == 0 ? 0 : 1;

@@ -8,13 +8,14 @@ use job::turns;
 #[no_mangle]
 pub extern "C" fn bench_recover_in_turns(
     q: u8,
+    series: u8,
     m: u16,
     word: &[u8],
     budgets: &[u8],
     message: &mut [u8],
 ) -> u32
-    ensures { λ r. ⌜ r ≡ packed (recovered q m (now (word .entry)) (now (message .entry)) .outcome) ⌝ }
-    ensures { λ r. ⌜ now (message .exit) ≡ recovered q m (now (word .entry)) (now (message .entry)) .slice ⌝ }
+    ensures { λ r. ⌜ r ≡ packed (recovered q series m (now (word .entry)) (now (message .entry)) .outcome) ⌝ }
+    ensures { λ r. ⌜ now (message .exit) ≡ recovered q series m (now (word .entry)) (now (message .entry)) .slice ⌝ }
 {
-    outcome::packed(turns::recover_in_turns(q, m, word, budgets, message))
+    outcome::packed(turns::recover_in_turns(q, series, m, word, budgets, message))
 }

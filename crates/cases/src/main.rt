@@ -28,6 +28,11 @@ fn order(record: [u8; 160]) -> u16 {
     number(record[2], record[152])
 }
 
+// The series of a record: its byte with the lowest bit flipped, so that 0 is series 1.
+fn series(record: [u8; 160]) -> u8 {
+    record[154] ^ 1
+}
+
 fn field_case(op: u8, q: u8, a: u8, b: u8) {
     let answer = match op {
         b'+' => field::entry::sum(q, a, b),
@@ -44,21 +49,31 @@ fn field_case(op: u8, q: u8, a: u8, b: u8) {
 fn run_on_slices(
     op: u8,
     q: u8,
+    series: u8,
     m: u16,
     session: Session,
     input: &[u8],
     output: &mut [u8],
 ) -> Outcome {
     match op {
-        b'e' => code::encoding::encode(q, m, input, output),
-        b'u' => code::unencoding::unencode(q, m, input, output),
-        b'r' => recovery::recover(q, m, input, output),
+        b'e' => code::encoding::encode(q, series, m, input, output),
+        b'u' => code::unencoding::unencode(q, series, m, input, output),
+        b'r' => recovery::recover(q, series, m, input, output),
+        b'C' => code::conversion::convert(q, series, input, output),
         _ => session.ask(output),
     }
 }
 
-fn slice_answer(op: u8, q: u8, m: u16, session: Session, input: &[u8], output: &mut [u8]) {
-    let outcome = run_on_slices(op, q, m, session, input, output);
+fn slice_answer(
+    op: u8,
+    q: u8,
+    series: u8,
+    m: u16,
+    session: Session,
+    input: &[u8],
+    output: &mut [u8],
+) {
+    let outcome = run_on_slices(op, q, series, m, session, input, output);
     print_answer(op, outcome);
     print_values(output, b'\n');
 }
@@ -70,6 +85,7 @@ fn slice_case(session: Session, record: [u8; 160]) {
     slice_answer(
         record[0],
         record[1],
+        series(record),
         order(record),
         session,
         &record[8..input_end],
@@ -79,13 +95,14 @@ fn slice_case(session: Session, record: [u8; 160]) {
 
 fn mend_answer(
     q: u8,
+    series: u8,
     m: u16,
     word: &[u8],
     message: &mut [u8],
     mended: &mut [u8],
     marks: &mut [u8],
 ) {
-    let reply = mend::mend(q, m, word, message, mended, marks);
+    let reply = mend::mend(q, series, m, word, message, mended, marks);
     let outcome = reply.outcome;
     let count = reply.count;
     print_answer(b'm', outcome);
@@ -107,6 +124,7 @@ fn mend_case(record: [u8; 160]) {
     let marks_end = 80 + room(record[6] as usize);
     mend_answer(
         record[1],
+        series(record),
         order(record),
         &record[8..word_end],
         &mut message[80..message_end],
@@ -128,12 +146,13 @@ fn bytes_from(start: usize, record: [u8; 160]) -> [u8; 64]
     bytes
 }
 
-// A session with the places and rounds of a record.
+// A session with the series, places and rounds of a record.
 fn raw_session(record: [u8; 160]) -> Session {
     let places = bytes_from(8, record);
     let rounds = bytes_from(80, record);
     Session {
         q: record[1],
+        series: series(record),
         m: order(record),
         places,
         rounds,
@@ -142,12 +161,20 @@ fn raw_session(record: [u8; 160]) -> Session {
 
 fn session_reply(session: Session, record: [u8; 160]) -> Reply {
     match record[0] {
-        b'o' => session::open(record[1], order(record)),
+        b'o' => session::open(record[1], series(record), order(record)),
         b's' => Reply {
             session: raw_session(record),
             outcome: Outcome::Done,
         },
         _ => session.arrive(number(record[5], record[153]), record[6], record[7]),
+    }
+}
+
+// The series of a session or job after its q, but for series 1.
+fn print_series(series: u8) {
+    if series != 1 {
+        io::write_all(STDOUT_FILENO, &[b'/']);
+        print_byte(series);
     }
 }
 
@@ -159,6 +186,7 @@ fn session_case(session: Session, record: [u8; 160]) -> Session {
     let rounds = next.rounds;
     print_answer(record[0], outcome);
     print_byte(next.q);
+    print_series(next.series);
     io::write_all(STDOUT_FILENO, &[b' ']);
     print_number(next.m);
     io::write_all(STDOUT_FILENO, &[b' ']);
@@ -203,6 +231,7 @@ fn replay_answer(record: [u8; 160], count: usize, message: &mut [u8])
     let rounds = every_fourth(11, record);
     let outcome = session::replay::replay(
         record[1],
+        series(record),
         order(record),
         &places[..count],
         &symbols[..count],
@@ -220,8 +249,8 @@ fn replay_case(record: [u8; 160]) {
     replay_answer(record, count, &mut lent[80..message_end]);
 }
 
-fn turns_answer(q: u8, m: u16, word: &[u8], budgets: &[u8], message: &mut [u8]) {
-    let outcome = job::turns::recover_in_turns(q, m, word, budgets, message);
+fn turns_answer(q: u8, series: u8, m: u16, word: &[u8], budgets: &[u8], message: &mut [u8]) {
+    let outcome = job::turns::recover_in_turns(q, series, m, word, budgets, message);
     print_answer(b't', outcome);
     print_values(message, b'\n');
 }
@@ -233,6 +262,7 @@ fn turns_case(record: [u8; 160]) {
     let message_end = 80 + room(record[4] as usize);
     turns_answer(
         record[1],
+        series(record),
         order(record),
         &record[8..word_end],
         &budgets,
@@ -265,8 +295,8 @@ fn chosen_places(record: [u8; 160]) -> [u16; 72]
     places
 }
 
-fn encode_at_answer(q: u8, m: u16, places: &[u16], symbols: &[u8], word: &mut [u8]) {
-    let outcome = systematic::encode_at(q, m, places, symbols, word);
+fn encode_at_answer(q: u8, series: u8, m: u16, places: &[u16], symbols: &[u8], word: &mut [u8]) {
+    let outcome = systematic::encode_at(q, series, m, places, symbols, word);
     print_answer(b'E', outcome);
     print_values(word, b'\n');
 }
@@ -279,6 +309,7 @@ fn encode_at_case(record: [u8; 160]) {
     let word_end = room(record[5] as usize);
     encode_at_answer(
         record[1],
+        series(record),
         order(record),
         &places[..count],
         &record[80..symbols_end],
@@ -321,7 +352,12 @@ fn run_case(session: Session, record: [u8; 160]) -> Session {
 fn job_opening(session: Session, record: [u8; 160]) -> Opening {
     let word_end = 8 + room(record[3] as usize);
     match record[0] {
-        b'j' => job::open(record[1], order(record), &record[8..word_end]),
+        b'j' => job::open(
+            record[1],
+            series(record),
+            order(record),
+            &record[8..word_end],
+        ),
         _ => session.job(),
     }
 }
@@ -333,6 +369,7 @@ fn opening_case(session: Session, record: [u8; 160]) -> Job {
     let places = next.places;
     print_answer(record[0], outcome);
     print_byte(next.q);
+    print_series(next.series);
     io::write_all(STDOUT_FILENO, &[b' ']);
     print_number(next.m);
     io::write_all(STDOUT_FILENO, &[b' ']);
@@ -413,6 +450,7 @@ fn raw_job(record: [u8; 160]) -> Job {
         candidate: message,
         whole: message,
         q: record[1],
+        series: series(record),
         m: order(record),
         next: number(record[3], record[153]),
         complete: record[6] / 2 % 2 == 1,
@@ -480,8 +518,8 @@ fn run_job_case(session: Session, job: Job, record: [u8; 160]) -> Job {
 
 // The loop counts its turns down from a number that no input reaches, since a proved loop has to end.
 fn main() {
-    let refused = session::open(0, 0);
-    let refused_job = job::open(0, 0, &[]);
+    let refused = session::open(0, 1, 0);
+    let refused_job = job::open(0, 1, 0, &[]);
     let mut session = refused.session;
     let mut job = refused_job.job;
     let mut turns = u64::MAX;

@@ -28,22 +28,27 @@ refused checked o slice answer e n = ap (λ (x : Outcome). unlessRefused x slice
 pub not-refused : (checked : Outcome) (slice : List ℕ) (answer : Answer) → checked ≡ Done → unlessRefused checked slice answer ≡ answer
 not-refused checked slice answer e = ap (λ (x : Outcome). unlessRefused x slice answer) e
 
--- a refusal by the checks 1 and 2 is the call's
-pub order-refused : (taken : Bool) (q m : ℕ) (o : Outcome) → o ≡ orderChecks taken q m Done → Refused o → (rest : Outcome) → o ≡ orderChecks taken q m rest
-order-refused taken q m o e r rest = row-refused (orderChecks taken q m) (order-follows taken q m) o e rest r
+-- a refusal by the checks 1, 17 and 2 is the call's
+pub order-refused : (taken : Bool) (q series m : ℕ) (o : Outcome) → o ≡ orderChecks taken q series m Done → Refused o → (rest : Outcome) → o ≡ orderChecks taken q series m rest
+order-refused taken q series m o e r rest = row-refused (orderChecks taken q series m) (order-follows taken q series m) o e rest r
 
 -- what the checks refuse is the entry's answer
 pub entry-refused : (checked o : Outcome) (slice : List ℕ) (answer : Answer) → o ≡ checked → Refused o
     → unlessRefused checked slice answer ≡ answered o slice
 entry-refused checked o slice answer e r = refused checked o slice answer (sym e) (not-done o r)
 
--- a call over both rows of checks that answers Done is past them
-module _ (taken : Bool) (q m : ℕ) (gaps : Bool) (Q takes : ℕ) (input : List ℕ) (writes room : ℕ) where
+-- a call that answers Done is past its checks
+pub past : (checked : Outcome) (slice v : List ℕ) (answer : Answer) → unlessRefused checked slice answer ≡ answered Done v
+    → (checked ≡ Done) × (answer ≡ answered Done v)
+past checked slice v answer e =
+    ⊎-elim (λ d. (d, sym (not-refused checked slice answer d) ∙ e))
+    (λ n. absurd (done-or-not checked (ap (λ (a : Answer). a .outcome) (sym (refused checked checked slice answer refl n) ∙ e)) n)) (done-or-refused checked)
+
+-- over both rows of checks
+module _ (taken : Bool) (q series m : ℕ) (gaps : Bool) (Q takes : ℕ) (input : List ℕ) (writes room : ℕ) where
   abbrev both : Outcome
-  both = orderChecks taken q m (sliceChecks gaps Q takes input writes room Done)
+  both = orderChecks taken q series m (sliceChecks gaps Q takes input writes room Done)
 
   pub past-checks : (slice v : List ℕ) (answer : Answer) → unlessRefused both slice answer ≡ answered Done v
       → (both ≡ Done) × (answer ≡ answered Done v)
-  past-checks slice v answer e =
-      ⊎-elim (λ d. (d, sym (not-refused both slice answer d) ∙ e))
-      (λ n. absurd (done-or-not both (ap (λ (a : Answer). a .outcome) (sym (refused both both slice answer refl n) ∙ e)) n)) (done-or-refused both)
+  past-checks slice v answer = past both slice v answer

@@ -10,34 +10,50 @@ use lib.Dec.{leb, ltb, eqb}
 use lib.ListN.{length, getD}
 use Rattle.field.specs.Outcomes.{number, refuse}
 use Rattle.field.specs.declared.outcome.Outcome.{Outcome}
-use Rattle.field.specs.declared.outcome.Outcome.the-variants.{Done, BadCurve, BadOrder, BadLength, BadValue, BadRoom}
+use Rattle.field.specs.declared.outcome.Outcome.the-variants.{Done, BadCurve, BadOrder, BadLength, BadValue, BadRoom, BadSeries}
 pub use Rattle.field.proofs.Values.{good-symbol, good-gap, bad-gap, symbol-of-good, value-of-good, all-good, none-found}
 use Rattle.field.proofs.Outcomes.{passed, Follows, none-follow, refuse-follows, follows-after, row-not-done, row-passed}
+use Rattle.points.specs.Series.{isSeries}
 use Rattle.code.specs.Terms.{size}
-use Rattle.code.specs.Checks.{orderChecks, badValue, firstBad, valueCheck, sliceChecks, callChecks}
+use Rattle.code.specs.Checks.{curveChecks, orderChecks, badValue, firstBad, valueCheck, sliceChecks, callChecks}
 
 -- ---- rows of checks
 
--- what it says that the checks 1 and 2 and all that follows come out Done
-pub order-rest : (taken : Bool) (q m : ℕ) (rest : Outcome) → orderChecks taken q m rest ≡ Done → (taken ≡ true) × (m < q * q * q) × (rest ≡ Done)
+-- what it says that the checks 1 and 17 and all that follows come out Done
+pub curve-rest : (taken : Bool) (series : ℕ) (rest : Outcome) → curveChecks taken series rest ≡ Done
+    → (taken ≡ true) × (isSeries series ≡ true) × (rest ≡ Done)
+unfolding curveChecks
+curve-rest taken series rest e =
+    let a = passed (not taken) (refuse (not (isSeries series)) BadSeries rest) BadCurve (λ p. omega (arith, ap number p)) e in
+    let b = passed (not (isSeries series)) rest BadSeries (λ p. omega (arith, ap number p)) (a .1) in
+    (not-false taken (a .0), not-false (isSeries series) (b .0), b .1)
+
+-- and 1, 17 and 2
+pub order-rest : (taken : Bool) (q series m : ℕ) (rest : Outcome) → orderChecks taken q series m rest ≡ Done
+    → (taken ≡ true) × (m < q * q * q) × (rest ≡ Done) × (isSeries series ≡ true)
 unfolding orderChecks
-order-rest taken q m rest e =
-    let a = passed (not taken) (refuse (leb (q * q * q) m) BadOrder rest) BadCurve (λ p. omega (arith, ap number p)) e in
-    let b = passed (leb (q * q * q) m) rest BadOrder (λ p. omega (arith, ap number p)) (a .1) in
-    (not-false taken (a .0), leb-false (q * q * q) m (b .0), b .1)
+order-rest taken q series m rest e =
+    let a = curve-rest taken series (refuse (leb (q * q * q) m) BadOrder rest) e in
+    let b = passed (leb (q * q * q) m) rest BadOrder (λ p. omega (arith, ap number p)) (a .2) in
+    (a .0, leb-false (q * q * q) m (b .0), b .1, a .1)
 
-pub order-done : (taken : Bool) (q m : ℕ) → orderChecks taken q m Done ≡ Done → (taken ≡ true) × (m < q * q * q)
-order-done taken q m e = let w = order-rest taken q m Done e in (w .0, w .1)
+pub order-done : (taken : Bool) (q series m : ℕ) → orderChecks taken q series m Done ≡ Done
+    → (taken ≡ true) × (m < q * q * q) × (isSeries series ≡ true)
+order-done taken q series m e = let w = order-rest taken q series m Done e in (w .0, w .1, w .3)
 
--- how the tests of the code decide 1 and 2
-module _ (taken : Bool) (q m : ℕ) (rest : Outcome) where
-  pub order-curve : taken ≡ false → orderChecks taken q m rest ≡ BadCurve
-  unfolding orderChecks
+-- how the tests of the code decide 1, 17 and 2
+pub curve-passed : (taken : Bool) (series : ℕ) (rest : Outcome) → taken ≡ true → isSeries series ≡ true → curveChecks taken series rest ≡ rest
+unfolding curveChecks
+curve-passed taken series rest c n = rw (c, n)
+
+module _ (taken : Bool) (q series m : ℕ) (rest : Outcome) where
+  pub order-curve : taken ≡ false → orderChecks taken q series m rest ≡ BadCurve
+  unfolding orderChecks curveChecks
   order-curve e = rw e
 
-  pub order-passed : taken ≡ true → m < q * q * q → orderChecks taken q m rest ≡ rest
+  pub order-passed : taken ≡ true → isSeries series ≡ true → m < q * q * q → orderChecks taken q series m rest ≡ rest
   unfolding orderChecks
-  order-passed c l = rw (c, lt-leb (q * q * q) m l)
+  order-passed c n l = curve-passed taken series _ c n ∙ rw (lt-leb (q * q * q) m l)
 
 -- what it says that check 4 and all that follows come out Done
 pub value-rest : (gaps : Bool) (Q : ℕ) (input : List ℕ) (rest : Outcome) → valueCheck gaps Q input rest ≡ Done
@@ -82,25 +98,31 @@ pub slices-done : (gaps : Bool) (Q takes : ℕ) (input : List ℕ) (writes room 
 slices-done gaps Q takes input writes room e = slices-rest gaps Q takes input writes room Done e .0
 
 -- and what all five of a call say
-pub call-rest : (taken gaps decodes : Bool) (q m : ℕ) (input : List ℕ) (room : ℕ) (rest : Outcome)
-    → callChecks taken gaps decodes q m input room rest ≡ Done → (taken ≡ true) × (m < q * q * q)
-    × Accepted gaps (q * q) (cond decodes (q * q * q) (size q m)) input (cond decodes (size q m) (q * q * q)) room × (rest ≡ Done)
-call-rest taken gaps decodes q m input room rest e =
-    let w = order-rest taken q m _ e in
+pub call-rest : (taken gaps decodes : Bool) (q series m : ℕ) (input : List ℕ) (room : ℕ) (rest : Outcome)
+    → callChecks taken gaps decodes q series m input room rest ≡ Done → (taken ≡ true) × (m < q * q * q)
+    × Accepted gaps (q * q) (cond decodes (q * q * q) (size q m)) input (cond decodes (size q m) (q * q * q)) room × (rest ≡ Done) × (isSeries series ≡ true)
+call-rest taken gaps decodes q series m input room rest e =
+    let w = order-rest taken q series m _ e in
     let s = slices-rest gaps (q * q) (cond decodes (q * q * q) (size q m)) input (cond decodes (size q m) (q * q * q)) room rest (w .2) in
-    (w .0, w .1, s .0, s .1)
+    (w .0, w .1, s .0, s .1, w .3)
 
-pub call-done : (taken gaps decodes : Bool) (q m : ℕ) (input : List ℕ) (room : ℕ) → callChecks taken gaps decodes q m input room Done ≡ Done
+pub call-done : (taken gaps decodes : Bool) (q series m : ℕ) (input : List ℕ) (room : ℕ) → callChecks taken gaps decodes q series m input room Done ≡ Done
     → (taken ≡ true) × (m < q * q * q)
-    × Accepted gaps (q * q) (cond decodes (q * q * q) (size q m)) input (cond decodes (size q m) (q * q * q)) room
-call-done taken gaps decodes q m input room e = let w = call-rest taken gaps decodes q m input room Done e in (w .0, w .1, w .2)
+    × Accepted gaps (q * q) (cond decodes (q * q * q) (size q m)) input (cond decodes (size q m) (q * q * q)) room × (isSeries series ≡ true)
+call-done taken gaps decodes q series m input room e = let w = call-rest taken gaps decodes q series m input room Done e in (w .0, w .1, w .2, w .4)
 
 -- the rows as such: a refusal of theirs is the call's
 
-pub order-follows : (taken : Bool) (q m : ℕ) → Follows (orderChecks taken q m)
+pub curve-follows : (taken : Bool) (series : ℕ) → Follows (curveChecks taken series)
+unfolding curveChecks
+curve-follows taken series =
+    refuse-follows (not taken) BadCurve (refuse (not (isSeries series)) BadSeries) refl
+    (refuse-follows (not (isSeries series)) BadSeries (λ rest. rest) refl none-follow)
+
+pub order-follows : (taken : Bool) (q series m : ℕ) → Follows (orderChecks taken q series m)
 unfolding orderChecks
-order-follows taken q m =
-    refuse-follows (not taken) BadCurve (refuse (leb (q * q * q) m) BadOrder) refl
+order-follows taken q series m =
+    follows-after (curveChecks taken series) (refuse (leb (q * q * q) m) BadOrder) (curve-follows taken series)
     (refuse-follows (leb (q * q * q) m) BadOrder (λ rest. rest) refl none-follow)
 
 -- check 4 before a row
@@ -145,23 +167,30 @@ module _ (gaps : Bool) (Q takes : ℕ) (input : List ℕ) (writes room : ℕ) (r
       pub slices-passed : room ≡ writes → sliceChecks gaps Q takes input writes room rest ≡ rest
       slices-passed g = past-values ∙ rw (eq-eqb room writes g)
 
+-- past 3 and 4
+pub slices-good : (gaps : Bool) (Q takes : ℕ) (input : List ℕ) (writes room : ℕ) (rest : Outcome) → length input ≡ takes
+    → ((i : ℕ) → i < length input → badValue gaps Q (getD input i 0) ≡ false)
+    → sliceChecks gaps Q takes input writes room rest ≡ refuse (not (eqb room writes)) BadRoom rest
+slices-good gaps Q takes input writes room rest e good =
+    past-values gaps Q takes input writes room rest e Done
+    (value-good gaps Q input _ refl (omega (arith, none-found (badValue gaps Q) input good))) refl
+
 pub slices-accepted : (gaps : Bool) (Q takes : ℕ) (input : List ℕ) (writes room : ℕ) (rest : Outcome) → Accepted gaps Q takes input writes room
     → sliceChecks gaps Q takes input writes room rest ≡ rest
 slices-accepted gaps Q takes input writes room rest h =
-    slices-passed gaps Q takes input writes room rest (h .long) Done
-    (value-good gaps Q input _ refl (omega (arith, none-found (badValue gaps Q) input (h .good)))) refl (h .fits)
+    slices-good gaps Q takes input writes room rest (h .long) (h .good) ∙ rw (eq-eqb room writes (h .fits))
 
--- past 1 and 2 the call is decided by 3, 4 and 5
-pub call-past : (taken gaps decodes : Bool) (q m : ℕ) (input : List ℕ) (room : ℕ) (o : Outcome) (takes writes : ℕ)
-    → (taken ≡ true) × (m < q * q * q)
+-- past 1, 17 and 2 the call is decided by 3, 4 and 5
+pub call-past : (taken gaps decodes : Bool) (q series m : ℕ) (input : List ℕ) (room : ℕ) (o : Outcome) (takes writes : ℕ)
+    → (taken ≡ true) × (m < q * q * q) × (isSeries series ≡ true)
     → takes ≡ cond decodes (q * q * q) (size q m) → writes ≡ cond decodes (size q m) (q * q * q)
-    → o ≡ sliceChecks gaps (q * q) takes input writes room Done → o ≡ callChecks taken gaps decodes q m input room Done
-call-past taken gaps decodes q m input room o takes writes p t w e =
-    e ∙ ap₂ (λ (a b : ℕ). sliceChecks gaps (q * q) a input b room Done) t w ∙ sym (order-passed taken q m _ (p .0) (p .1))
+    → o ≡ sliceChecks gaps (q * q) takes input writes room Done → o ≡ callChecks taken gaps decodes q series m input room Done
+call-past taken gaps decodes q series m input room o takes writes p t w e =
+    e ∙ ap₂ (λ (a b : ℕ). sliceChecks gaps (q * q) a input b room Done) t w ∙ sym (order-passed taken q series m _ (p .0) (p .2) (p .1))
 
 -- and what follows a call's checks
-pub call-follows : (taken gaps decodes : Bool) (q m : ℕ) (input : List ℕ) (room : ℕ) → Follows (callChecks taken gaps decodes q m input room)
-call-follows taken gaps decodes q m input room =
-    follows-after (orderChecks taken q m)
-    (sliceChecks gaps (q * q) (cond decodes (q * q * q) (size q m)) input (cond decodes (size q m) (q * q * q)) room) (order-follows taken q m)
+pub call-follows : (taken gaps decodes : Bool) (q series m : ℕ) (input : List ℕ) (room : ℕ) → Follows (callChecks taken gaps decodes q series m input room)
+call-follows taken gaps decodes q series m input room =
+    follows-after (orderChecks taken q series m)
+    (sliceChecks gaps (q * q) (cond decodes (q * q * q) (size q m)) input (cond decodes (size q m) (q * q * q)) room) (order-follows taken q series m)
     (slices-follow gaps (q * q) (cond decodes (q * q * q) (size q m)) input (cond decodes (size q m) (q * q * q)) room)

@@ -1,7 +1,7 @@
--- The full ascending list of columns; and what the checks say of a call over it.
+-- All columns in the order of a series; and what the checks say of a call over them.
 -- Assumes nothing.
 use mathlib.Core.Bool.{true, false}
-use mathlib.Core.List.{List, []}
+use mathlib.Core.List.{List}
 use mathlib.Core.Logic.{inl, inr, ⊎-elim}
 use mathlib.Core.Path.{_≡_, sym, _∙_}
 use Prim.Native.Nat.{ℕ, suc, _*_, _<_}
@@ -14,20 +14,20 @@ use Rattle.field.proofs.FieldLaws.{zero-lt}
 use Rattle.field.proofs.Curves.{each-short, sizes}
 use Rattle.poly.specs.inner.Ranges.{Below}
 use Rattle.points.specs.Passing.{passing}
-use Rattle.points.specs.Points.{pointsOn, columnsOf}
-use Rattle.points.proofs.ColumnPoints.{length-upTo, full-columns, full-places}
+use Rattle.points.specs.Points.{pointsOn}
+use Rattle.points.specs.Series.{columnsOf}
+use Rattle.points.proofs.Points.{length-points}
+use Rattle.points.proofs.Series.{full-columns, length-columns, full-places}
 use Rattle.points.proofs.Passing.{place-le}
 use Rattle.code.specs.Terms.{isTerm, size}
 use Rattle.code.specs.inner.Encodable.{Encodable}
 use Rattle.code.specs.inner.Recovering.{BrokenOver}
 use Rattle.code.specs.inner.Readable.{Readable}
-use Rattle.code.proofs.WordColumns.{word-length}
-use Rattle.code.proofs.Word.{length-word}
 use Rattle.code.proofs.Checks.{Accepted, symbol-of-good, value-of-good}
 
-pub full-points : (q : ℕ) → IsCurve q → length (pointsOn q (columnsOf q)) ≡ q * q * q
-full-points q curve =
-    sym (length-word q (columnsOf q) 0 []) ∙ word-length q 0 curve [] (columnsOf q) (full-columns q curve .small) ∙ full-places q curve
+pub full-points : (q series : ℕ) → IsCurve q → length (pointsOn q (columnsOf q series)) ≡ q * q * q
+full-points q series curve =
+    length-points q curve (columnsOf q series) (full-columns q series curve .small) ∙ full-places q series curve
 
 -- the values of an accepted message or whole word are symbols
 pub accepted-symbols : (q : ℕ) → IsCurve q → (takes : ℕ) (input : List ℕ) (writes room : ℕ) → Accepted false (q * q) takes input writes room
@@ -37,27 +37,27 @@ accepted-symbols q curve takes input writes room h i = elim (decLt i (length inp
   | no d ↦ rw (List·getD-eq-default input 0 {n = i} (omega arith)) (zero-lt (fieldOf q))
 ]
 
-pub encodable : (q m : ℕ) (message word : List ℕ) → IsCurve q → m < q * q * q → Accepted false (q * q) (size q m) message (q * q * q) (length word)
-    → Encodable q (columnsOf q) m message word
-encodable q m message word curve l h =
-    let n = full-places q curve in
+pub encodable : (q series m : ℕ) (message word : List ℕ) → IsCurve q → m < q * q * q → Accepted false (q * q) (size q m) message (q * q * q) (length word)
+    → Encodable q (columnsOf q series) m message word
+encodable q series m message word curve l h =
+    let n = full-places q series curve in
     record {
-      over = full-columns q curve;
-      few = omega (arith, length-upTo (q * q));
+      over = full-columns q series curve;
+      few = omega (arith, length-columns q series curve);
       order = omega arith;
       long = h .long;
       symbols = accepted-symbols q curve (size q m) message (q * q * q) (length word) h;
       room = h .fits ∙ sym n;
     }
 
-pub broken-over : (q m : ℕ) (word : List ℕ) (writes room : ℕ) → IsCurve q → m < q * q * q → Accepted true (q * q) (q * q * q) word writes room
-    → BrokenOver q (columnsOf q) m word
-broken-over q m word writes room curve l h =
+pub broken-over : (q series m : ℕ) (word : List ℕ) (writes room : ℕ) → IsCurve q → m < q * q * q → Accepted true (q * q) (q * q * q) word writes room
+    → BrokenOver q (columnsOf q series) m word
+broken-over q series m word writes room curve l h =
     let z = sizes q curve in
-    let n = full-places q curve in
+    let n = full-places q series curve in
     record {
-      over = full-columns q curve;
-      few = omega (arith, length-upTo (q * q));
+      over = full-columns q series curve;
+      few = omega (arith, length-columns q series curve);
       order = omega arith;
       long = h .long ∙ sym n;
       value = λ p b. ⊎-elim inl (λ k. inr (omega (arith, z .size))) (value-of-good (q * q) (getD word p 0) (h .good p b));
@@ -70,14 +70,14 @@ size-short =
     each-short (λ q. (m : ℕ) → m < q * q * q → size q m < 64)
     (λ m l. omega (arith, place-le (isTerm 2) (suc m) 8 l)) (λ m l. omega (arith, place-le (isTerm 4) (suc m) 64 l))
 
-pub readable : (q m : ℕ) (word message : List ℕ) → IsCurve q → m < q * q * q → Accepted false (q * q) (q * q * q) word (size q m) (length message)
-    → Readable q (columnsOf q) m word message
-readable q m word message curve l h =
-    let n = full-places q curve in
+pub readable : (q series m : ℕ) (word message : List ℕ) → IsCurve q → m < q * q * q → Accepted false (q * q) (q * q * q) word (size q m) (length message)
+    → Readable q (columnsOf q series) m word message
+readable q series m word message curve l h =
+    let n = full-places q series curve in
     record {
       whole = record {
-        over = full-columns q curve;
-        few = omega (arith, length-upTo (q * q));
+        over = full-columns q series curve;
+        few = omega (arith, length-columns q series curve);
         long = h .long ∙ sym n;
         symbols = accepted-symbols q curve (q * q * q) word (size q m) (length message) h;
       };

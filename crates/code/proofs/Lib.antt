@@ -27,3 +27,5 @@ pub mod WordGrids
 pub mod Inverse
 pub mod PaperValues
 pub mod HighOrders
+pub mod Conversions
+pub mod Moving

@@ -21,29 +21,29 @@ use Rattle.code.proofs.Checks.{call-follows}
 use Rattle.code.proofs.Facts.{Facts, facts}
 use Rattle.code.proofs.Recoveries.{readingOf}
 
-module _ (m : ℕ) (broken slice : List ℕ) (work : ℕ) where
+module _ (series m : ℕ) (broken slice : List ℕ) (work : ℕ) where
   abbrev row : Outcome → Outcome
-  row = callChecks true true true 8 m broken (length slice)
+  row = callChecks true true true 8 series m broken (length slice)
 
   module _ (o : Outcome) (e : o ≡ row Done) where
-    -- refused by 2, 3, 4 or 5
-    pub long-refused : Refused o → recoveredLong m broken slice work ≡ answered o slice
+    -- refused by 17, 2, 3, 4 or 5
+    pub long-refused : Refused o → recoveredLong series m broken slice work ≡ answered o slice
     unfolding recoveredLong
-    long-refused r = entry-refused (longChecks m broken slice work) o slice _ (row-refused row (call-follows true true true 8 m broken (length slice)) o e _ r) r
+    long-refused r = entry-refused (longChecks series m broken slice work) o slice _ (row-refused row (call-follows true true true 8 series m broken (length slice)) o e _ r) r
 
     module _ (d : o ≡ Done) where
       -- refused by 14
-      pub long-work : (work ≡ workLength → ⊥) → recoveredLong m broken slice work ≡ answered BadWork slice
+      pub long-work : (work ≡ workLength → ⊥) → recoveredLong series m broken slice work ≡ answered BadWork slice
       unfolding recoveredLong
       long-work n =
-          refused (longChecks m broken slice work) BadWork slice _
-          (row-passed row (call-follows true true true 8 m broken (length slice)) o e _ d ∙ rw (ne-eqb work workLength n) refl) refl
+          refused (longChecks series m broken slice work) BadWork slice _
+          (row-passed row (call-follows true true true 8 series m broken (length slice)) o e _ d ∙ rw (ne-eqb work workLength n) refl) refl
 
-      pub long-passed : work ≡ workLength → recoveredLong m broken slice work ≡ answerOf (readingOf 8 m broken) slice
+      pub long-passed : work ≡ workLength → recoveredLong series m broken slice work ≡ answerOf (readingOf 8 series m broken) slice
       unfolding recoveredLong
       long-passed f =
-          not-refused (longChecks m broken slice work) slice _
-          (row-passed row (call-follows true true true 8 m broken (length slice)) o e _ d ∙ rw (eq-eqb work workLength f) refl)
+          not-refused (longChecks series m broken slice work) slice _
+          (row-passed row (call-follows true true true 8 series m broken (length slice)) o e _ d ∙ rw (eq-eqb work workLength f) refl)
 
 -- what a reading answers is success, 9 or 10, after which the work slice is left open
 open-answer : (r : Reading) (slice : List ℕ) → let n = number (answerOf r slice .outcome) in (eqb n 0 || (eqb n 9 || eqb n 10)) ≡ true
@@ -57,5 +57,5 @@ kept-open r slice o v before after e k =
     absurd (false≢true (sym k ∙ ap (λ (a : Answer). let n = number (a .outcome) in (eqb n 0 || (eqb n 9 || eqb n 10))) (sym e) ∙ open-answer r slice))
 
 -- "all that encode, unencode and recover assure for a short block holds for a long one": 0 or a power of 64 messages fit, and m + 1 places decide
-pub long-facts : (m : ℕ) → Facts 8 m
-long-facts m = facts 8 m long-curve
+pub long-facts : (series m : ℕ) → Facts 8 series m
+long-facts series m = facts 8 series m long-curve

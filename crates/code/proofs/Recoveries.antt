@@ -9,7 +9,7 @@ use lib.Dec.{eqb}
 use Rattle.field.specs.Outcomes.{number, second}
 use Rattle.field.specs.declared.outcome.Outcome.{Outcome}
 use Rattle.field.specs.declared.outcome.Outcome.the-variants.{Done, NoMessage, Several}
-use Rattle.points.specs.Points.{columnsOf}
+use Rattle.points.specs.Series.{columnsOf}
 use Rattle.code.specs.Terms.{size}
 use Rattle.code.specs.Word.{wordOf}
 use Rattle.code.specs.Answers.{answered}
@@ -17,19 +17,19 @@ use Rattle.code.specs.Recovered.{Reading, nothing, message, several, rea
 use Rattle.code.proofs.Answers.{refused, not-refused}
 
 -- the reading past the checks
-abbrev pub readingOf : ℕ → ℕ → List ℕ → Reading
-readingOf q m broken = reading (q * q) (size q m) (wordOf q (columnsOf q) m) broken
+abbrev pub readingOf : ℕ → ℕ → ℕ → List ℕ → Reading
+readingOf q series m broken = reading (q * q) (size q m) (wordOf q (columnsOf q series) m) broken
 
-module _ (q m : ℕ) (broken slice : List ℕ) where
+module _ (q series m : ℕ) (broken slice : List ℕ) where
   -- a refusal leaves the slice as it was
-  pub recovered-refused : (o : Outcome) → recoverChecks q m broken slice ≡ o → eqb (number o) 0 ≡ false
-      → recovered q m broken slice ≡ answered o slice
+  pub recovered-refused : (o : Outcome) → recoverChecks q series m broken slice ≡ o → eqb (number o) 0 ≡ false
+      → recovered q series m broken slice ≡ answered o slice
   unfolding recovered
-  recovered-refused o = refused (recoverChecks q m broken slice) o slice (answerOf (readingOf q m broken) slice)
+  recovered-refused o = refused (recoverChecks q series m broken slice) o slice (answerOf (readingOf q series m broken) slice)
 
-  pub recovered-answer : recoverChecks q m broken slice ≡ Done → recovered q m broken slice ≡ answerOf (readingOf q m broken) slice
+  pub recovered-answer : recoverChecks q series m broken slice ≡ Done → recovered q series m broken slice ≡ answerOf (readingOf q series m broken) slice
   unfolding recovered
-  recovered-answer = not-refused (recoverChecks q m broken slice) slice (answerOf (readingOf q m broken) slice)
+  recovered-answer = not-refused (recoverChecks q series m broken slice) slice (answerOf (readingOf q series m broken) slice)
 
 -- ---- the answer determines the reading
 

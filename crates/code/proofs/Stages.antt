@@ -26,9 +26,11 @@ use Rattle.poly.proofs.Entries.{zeros, padded, below-set, below-zeros}
 use Rattle.poly.proofs.Parts.{part-at, length-part, below-part, below-back}
 use Rattle.poly.proofs.Blocks.{blocks-none, blocks-more, blocks-group, blocks-ext}
 use mathlib.Core.Logic.{inl, inr}
-use Rattle.points.specs.Points.{ysOf, columnsOf}
+use Rattle.points.specs.Points.{ysOf}
+use Rattle.points.specs.Series.{columnsOf}
 use Rattle.points.specs.inner.Columns.{Columns, columnY}
-use Rattle.points.proofs.ColumnPoints.{length-ys, y-symbol, length-upTo, full-columns}
+use Rattle.points.proofs.ColumnPoints.{length-ys, y-symbol}
+use Rattle.points.proofs.Series.{full-columns, length-columns}
 use Rattle.code.specs.Terms.{isTerm}
 use Rattle.code.specs.Word.{valueAt, wordOf}
 use Rattle.code.specs.inner.Grid.{entryOf, rank, scatterBelow, scatter}
@@ -222,12 +224,12 @@ module _ (q : ℕ) (columns : List ℕ) (m : ℕ) (message word : List ℕ) (h :
       }
 
 -- sixteen of all columns
-pub group-staged : (q : ℕ) → IsCurve q → (columns grid : List ℕ) (from to : ℕ) → columns ≡ columnsOf q → from ≤ to → to ≤ q * q → to ≤ from + 16
+pub group-staged : (q series : ℕ) → IsCurve q → (columns grid : List ℕ) (from to : ℕ) → columns ≡ columnsOf q series → from ≤ to → to ≤ q * q → to ≤ from + 16
     → Below (fieldOf q .size) grid → Staged q (part columns from to) grid
-group-staged q curve columns grid from to e le fits few small =
+group-staged q series curve columns grid from to e le fits few small =
     record {
       curve = curve;
-      columns-below = below-part (fieldOf q .size) columns from to (rw e (columns-below q (columnsOf q) (full-columns q curve)));
-      few = omega (arith, length-part columns from to le (omega (arith, ap length e, length-upTo (q * q), fits)));
+      columns-below = below-part (fieldOf q .size) columns from to (rw e (columns-below q (columnsOf q series) (full-columns q series curve)));
+      few = omega (arith, length-part columns from to le (omega (arith, ap length e, length-columns q series curve, fits)));
       symbols = small;
     }

@@ -42,3 +42,8 @@ pub word-at-point : (q : ℕ) (columns : List ℕ) (m : ℕ) (message : List ℕ
     → getD (wordOf q columns m message) t 0 ≡ valueAt q m message (pointAt q columns t .0) (pointAt q columns t .1)
 unfolding wordOf
 word-at-point q columns m message t = getD-map (λ p. valueAt q m message (p .0) (p .1)) (pointsOn q columns) (0, 0) 0 t
+
+pub word-symbol : (q : ℕ) (columns : List ℕ) (m : ℕ) (message : List ℕ) (t : ℕ) → t < length (pointsOn q columns)
+    → getD (wordOf q columns m message) t 0 < fieldOf q .size
+word-symbol q columns m message t l =
+    rw (word-at-point q columns m message t l) (value-lt q m message (pointAt q columns t .0) (pointAt q columns t .1))

@@ -4,6 +4,7 @@ pub mod Checks
 pub mod Answers
 pub mod Packed
 pub mod Encoded
+pub mod Converted
 pub mod Exponent
 pub mod Fitting
 pub mod Unencoded

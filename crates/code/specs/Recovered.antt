@@ -6,7 +6,7 @@ use lib.ListN.{length}
 use Rattle.field.specs.Curve.{isShort, curveOf}
 use Rattle.field.specs.declared.outcome.Outcome.{Outcome}
 use Rattle.field.specs.declared.outcome.Outcome.the-variants.{Done, NoMessage, Several}
-use Rattle.points.specs.Points.{columnsOf}
+use Rattle.points.specs.Series.{columnsOf}
 use Rattle.code.specs.Terms.{size}
 use Rattle.code.specs.Word.{wordOf}
 use Rattle.code.specs.Exponent.{exponent}
@@ -34,10 +34,10 @@ answerOf nothing slice = answered NoMessage slice
 answerOf (message v) slice = answered Done v
 answerOf (several r) slice = answered (Several r) slice
 
--- 1, 2, 3, 4 (255 allowed), 5
-abbrev pub recoverChecks : ℕ → ℕ → List ℕ → List ℕ → Outcome
-recoverChecks q m broken slice = callChecks (isShort q) true true q m broken (length slice) Done
+-- 1, 17, 2, 3, 4 (255 allowed), 5
+abbrev pub recoverChecks : ℕ → ℕ → ℕ → List ℕ → List ℕ → Outcome
+recoverChecks q series m broken slice = callChecks (isShort q) true true q series m broken (length slice) Done
 
-unfoldable pub recovered : ℕ → ℕ → List ℕ → List ℕ → Answer
-recovered q m broken slice =
-    unlessRefused (recoverChecks q m broken slice) slice (answerOf (reading (curveOf q .symbols) (size q m) (wordOf q (columnsOf q) m) broken) slice)
+unfoldable pub recovered : ℕ → ℕ → ℕ → List ℕ → List ℕ → Answer
+recovered q series m broken slice =
+    unlessRefused (recoverChecks q series m broken slice) slice (answerOf (reading (curveOf q .symbols) (size q m) (wordOf q (columnsOf q series) m) broken) slice)

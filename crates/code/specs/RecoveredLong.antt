@@ -10,7 +10,7 @@ use Rattle.field.specs.Curve.{curveOf}
 use Rattle.field.specs.Outcomes.{number, refuse}
 use Rattle.field.specs.declared.outcome.Outcome.{Outcome}
 use Rattle.field.specs.declared.outcome.Outcome.the-variants.{Done, BadWork}
-use Rattle.points.specs.Points.{columnsOf}
+use Rattle.points.specs.Series.{columnsOf}
 use Rattle.code.specs.Terms.{size}
 use Rattle.code.specs.Word.{wordOf}
 use Rattle.code.specs.Checks.{callChecks}
@@ -20,14 +20,14 @@ use Rattle.code.specs.Recovered.{reading, answerOf}
 abbrev pub workLength : ℕ
 workLength = 262144
 
--- 2, 3, 4 (255 allowed), 5, and "14: work slice of another length, after 5"
-abbrev pub longChecks : ℕ → List ℕ → List ℕ → ℕ → Outcome
-longChecks m broken slice work = callChecks true true true 8 m broken (length slice) (refuse (not (eqb work workLength)) BadWork Done)
+-- 17, 2, 3, 4 (255 allowed), 5, and "14: work slice of another length, after 5"
+abbrev pub longChecks : ℕ → ℕ → List ℕ → List ℕ → ℕ → Outcome
+longChecks series m broken slice work = callChecks true true true 8 series m broken (length slice) (refuse (not (eqb work workLength)) BadWork Done)
 
 -- the length of the work slice is work
-unfoldable pub recoveredLong : ℕ → List ℕ → List ℕ → ℕ → Answer
-recoveredLong m broken slice work =
-    unlessRefused (longChecks m broken slice work) slice (answerOf (reading (curveOf 8 .symbols) (size 8 m) (wordOf 8 (columnsOf 8) m) broken) slice)
+unfoldable pub recoveredLong : ℕ → ℕ → List ℕ → List ℕ → ℕ → Answer
+recoveredLong series m broken slice work =
+    unlessRefused (longChecks series m broken slice work) slice (answerOf (reading (curveOf 8 .symbols) (size 8 m) (wordOf 8 (columnsOf 8 series) m) broken) slice)
 
 -- the work slice, "whose content afterwards is left open: success and refusals 9 and 10 may change it, other refusals not"
 abbrev pub KeptUnlessWorked : Outcome → List ℕ → List ℕ → Type 0

@@ -4,3 +4,4 @@ pub mod Rows
 pub mod Recovering
 pub mod Readable
 pub mod Highest
+pub mod Moving

@@ -1,4 +1,4 @@
-// The checks 1 to 5 that the entries share.
+// The checks 1 to 5 and 17 that the entries share.
 ghost use mathlib.Core.Path.{_≡_};
 ghost use Prim.Native.Nat.{_≤_};
 ghost use lib.ListN.{length};
@@ -6,20 +6,34 @@ ghost use mathlib.Core.Bool.{true};
 ghost use Rattle.field.specs.Curve.{IsCurve};
 ghost use Rattle.field.specs.declared.outcome.Outcome.the-variants.{Done};
 ghost use Rattle.field.specs.Values.{badValue, firstBad, valueCheck};
-ghost use Rattle.code.specs.Checks.{orderChecks, sliceChecks, callChecks};
+ghost use Rattle.code.specs.Checks.{curveChecks, orderChecks, sliceChecks, callChecks};
 ghost use Rattle.code.specs.inner.Highest.{Highest};
 use crate::term;
 use field::Curve;
 use field::Outcome;
 
-// 1 and 2. The call says whether it takes the curve number.
-pub fn order(taken: bool, q: u8, m: usize) -> Outcome
-    requires { ⌜ (taken ≡ true → IsCurve q) ⌝ }
-    ensures { λ r. ⌜ r ≡ orderChecks taken q m Done ⌝ }
+// 1 and 17. The call says whether it takes the curve number.
+pub fn curve(taken: bool, series: u8) -> Outcome
+    ensures { λ r. ⌜ r ≡ curveChecks taken series Done ⌝ }
 {
     if !taken {
         return Outcome::BadCurve;
     }
+    if !points::is_series(series) {
+        return Outcome::BadSeries;
+    }
+    Outcome::Done
+}
+
+// 1, 17 and 2.
+pub fn order(taken: bool, q: u8, series: u8, m: usize) -> Outcome
+    requires { ⌜ (taken ≡ true → IsCurve q) ⌝ }
+    ensures { λ r. ⌜ r ≡ orderChecks taken q series m Done ⌝ }
+{
+    let first = curve(taken, series);
+    let Outcome::Done = first else {
+        return first;
+    };
     let curve = Curve::at(q);
     if curve.points <= m {
         return Outcome::BadOrder;
@@ -108,20 +122,21 @@ pub fn slices(
     Outcome::Done
 }
 
-// 1 to 5, of a call that decodes, which takes a word and writes a message, or encodes. Gaps, which are 255, may be allowed.
+// 1, 17 and 2 to 5, of a call that decodes, which takes a word and writes a message, or encodes. Gaps, which are 255, may be allowed.
 pub fn call(
     taken: bool,
     gaps: bool,
     decodes: bool,
     q: u8,
+    series: u8,
     m: usize,
     input: &[u8],
     room: usize,
 ) -> Outcome
     requires { ⌜ (taken ≡ true → IsCurve q) ⌝ }
-    ensures { λ r. ⌜ r ≡ callChecks taken gaps decodes q m (now (input .entry)) room Done ⌝ }
+    ensures { λ r. ⌜ r ≡ callChecks taken gaps decodes q series m (now (input .entry)) room Done ⌝ }
 {
-    let first = order(taken, q, m);
+    let first = order(taken, q, series, m);
     let Outcome::Done = first else {
         return first;
     };

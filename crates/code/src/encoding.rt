@@ -6,7 +6,7 @@ ghost use Rattle.field.specs.Curve.{IsCurve, IsShort};
 ghost use Rattle.field.proofs.Fields.{fieldOf};
 ghost use Rattle.poly.specs.inner.Linear.{entry};
 ghost use Rattle.poly.specs.inner.Ranges.{Below, Blocks};
-ghost use Rattle.points.specs.Points.{columnsOf};
+ghost use Rattle.points.specs.Series.{columnsOf};
 ghost use Rattle.points.specs.inner.Columns.{PaddedYs};
 ghost use Rattle.code.specs.Word.{wordOf};
 ghost use Rattle.code.specs.inner.Grid.{scatter};
@@ -105,11 +105,11 @@ fn evaluate_short_columns(q: u8, columns: &[u8], rows: &[u8], word: &mut [u8])
 }
 
 // The word of a short block's message. Each stage is a function with its own array, and the two arrays share their room.
-pub fn write_word(q: u8, m: usize, message: &[u8], word: &mut [u8])
-    requires { ⌜ Encodable q (columnsOf q) m (now message) (now word) × IsShort q ⌝ }
-    ensures { λ _. ⌜ now (word .exit) ≡ wordOf q (columnsOf q) m (now (message .entry)) ⌝ }
+pub fn write_word(q: u8, series: u8, m: usize, message: &[u8], word: &mut [u8])
+    requires { ⌜ Encodable q (columnsOf q series) m (now message) (now word) × IsShort q ⌝ }
+    ensures { λ _. ⌜ now (word .exit) ≡ wordOf q (columnsOf q series) m (now (message .entry)) ⌝ }
 {
-    let columns = points::columns();
+    let columns = points::columns(q, series);
     let width = q as usize;
     let c = width * width;
     let mut rows = [0u8; 64];
@@ -129,12 +129,12 @@ fn write_columns(q: u8, all: &[u8], columns: &[u8], n: usize, grid: &[u8], word:
 }
 
 // Both stages over all columns of a long block, sixteen at a time.
-fn write_long_columns(n: usize, grid: &[u8], word: &mut [u8])
+fn write_long_columns(series: u8, n: usize, grid: &[u8], word: &mut [u8])
     requires { ⌜ Below (fieldOf 8 .size) (now grid) × (1 ≤ n) × (8 * n ≤ length (now grid)) × (length (now word) ≡ 512) ⌝ }
-    ensures { λ _. ⌜ Blocks 8 (gridColumn 8 (columnsOf 8) n (now (grid .entry))) (now (word .exit)) 64 ⌝ }
+    ensures { λ _. ⌜ Blocks 8 (gridColumn 8 (columnsOf 8 series) n (now (grid .entry))) (now (word .exit)) 64 ⌝ }
 {
     let all = points::padded_long_ys();
-    let columns = points::long_columns();
+    let columns = points::long_columns(series);
     let mut from = 0;
     while from < 64 {
         let to = from + 16;
@@ -146,30 +146,30 @@ fn write_long_columns(n: usize, grid: &[u8], word: &mut [u8])
 }
 
 // The word of a long block's message.
-pub fn write_long_word(m: usize, message: &[u8], word: &mut [u8])
-    requires { ⌜ Encodable 8 (columnsOf 8) m (now message) (now word) ⌝ }
-    ensures { λ _. ⌜ now (word .exit) ≡ wordOf 8 (columnsOf 8) m (now (message .entry)) ⌝ }
+pub fn write_long_word(series: u8, m: usize, message: &[u8], word: &mut [u8])
+    requires { ⌜ Encodable 8 (columnsOf 8 series) m (now message) (now word) ⌝ }
+    ensures { λ _. ⌜ now (word .exit) ≡ wordOf 8 (columnsOf 8 series) m (now (message .entry)) ⌝ }
 {
     let mut grid = [0u8; 512];
     grid::scatter(8, m, message, &mut grid);
     let last = term::divide(8, m);
     let n = last.whole + 1;
-    write_long_columns(n, &grid, word);
+    write_long_columns(series, n, &grid, word);
 }
 
-// The word of a message, in the order of the points.
-pub fn encode(q: u8, m: u16, message: &[u8], word: &mut [u8]) -> Outcome
-    ensures { λ r. ⌜ encoded q m (now (message .entry)) (now (word .entry)) ≡ answered r (now (word .exit)) ⌝ }
+// The word of a message, in the order of the series' points.
+pub fn encode(q: u8, series: u8, m: u16, message: &[u8], word: &mut [u8]) -> Outcome
+    ensures { λ r. ⌜ encoded q series m (now (message .entry)) (now (word .entry)) ≡ answered r (now (word .exit)) ⌝ }
 {
     let order = m as usize;
     let taken = field::curve::is_curve(q);
-    let checked = check::call(taken, false, false, q, order, message, word.len());
+    let checked = check::call(taken, false, false, q, series, order, message, word.len());
     let Outcome::Done = checked else {
         return checked;
     };
     if q == 8 {
-        return long_block::run(false, order, message, word);
+        return long_block::run(false, series, order, message, word);
     }
-    write_word(q, order, message, word);
+    write_word(q, series, order, message, word);
     Outcome::Done
 }

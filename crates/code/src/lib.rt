@@ -1,5 +1,6 @@
 // The curve, its words, and their encoding and unencoding.
 pub mod check;
+pub mod conversion;
 pub mod encoding;
 pub mod grid;
 pub mod long_block;

@@ -3,7 +3,7 @@ ghost use mathlib.Core.Path.{_≡_};
 ghost use Prim.Native.Nat.{ℕ, _*_, _≤_, _<_};
 ghost use lib.ListN.{length, getD};
 ghost use Rattle.field.specs.Curve.{IsCurve, IsShort};
-ghost use Rattle.points.specs.Points.{columnsOf};
+ghost use Rattle.points.specs.Series.{columnsOf};
 ghost use Rattle.points.specs.inner.Columns.{PaddedYs};
 ghost use Rattle.code.specs.Terms.{size};
 ghost use Rattle.code.specs.Answers.{answered};
@@ -54,15 +54,17 @@ fn interpolate_in_y(q: u8, columns: &[u8], word: &[u8], work: &mut [u8])
 }
 
 // The grid of a short block's word, in the front of zeros. The tree is assigned, since one picked by an expression has room twice.
-pub fn interpolate_short(q: u8, word: &[u8]) -> [u8; 64]
-    requires { ⌜ WordOver q (columnsOf q) (now word) × IsShort q ⌝ }
-    ensures { λ r. ⌜ GridInFront q (columnsOf q) (now (word .entry)) r × (length r ≡ 64) ⌝ }
+pub fn interpolate_short(q: u8, series: u8, word: &[u8]) -> [u8; 64]
+    requires { ⌜ WordOver q (columnsOf q series) (now word) × IsShort q ⌝ }
+    ensures { λ r. ⌜ GridInFront q (columnsOf q series) (now (word .entry)) r × (length r ≡ 64) ⌝ }
 {
     let mut tree = points::tree_4();
     if q == 2 {
         tree = points::tree_2();
+    } else if series == 2 {
+        tree = points::tree_4_by_powers();
     }
-    let columns = points::columns();
+    let columns = points::columns(q, series);
     let width = q as usize;
     let c = width * width;
     let end = 16 * c;
@@ -75,12 +77,12 @@ pub fn interpolate_short(q: u8, word: &[u8]) -> [u8; 64]
 }
 
 // The grid of a long block's word.
-pub fn interpolate_long(word: &[u8]) -> [u8; 512]
-    requires { ⌜ WordOver 8 (columnsOf 8) (now word) ⌝ }
-    ensures { λ r. ⌜ GridInFront 8 (columnsOf 8) (now (word .entry)) r × (length r ≡ 512) ⌝ }
+pub fn interpolate_long(series: u8, word: &[u8]) -> [u8; 512]
+    requires { ⌜ WordOver 8 (columnsOf 8 series) (now word) ⌝ }
+    ensures { λ r. ⌜ GridInFront 8 (columnsOf 8 series) (now (word .entry)) r × (length r ≡ 512) ⌝ }
 {
-    let columns = points::long_columns();
-    let tree = points::long_tree();
+    let columns = points::long_columns(series);
+    let tree = points::long_tree(series);
     let mut work = [0u8; 1024];
     interpolate_in_y(8, &columns, word, &mut work);
     interpolation::interpolate(8, 8, &columns, &tree, &mut work);
@@ -102,36 +104,36 @@ fn read_grid(q: u8, m: usize, grid: &[u8], message: &mut [u8]) -> Outcome
 }
 
 // The message of a short block's word.
-pub fn read_word(q: u8, m: usize, word: &[u8], message: &mut [u8]) -> Outcome
-    requires { ⌜ Readable q (columnsOf q) m (now word) (now message) × IsShort q ⌝ }
-    ensures { λ r. ⌜ readOver q (columnsOf q) m (now (word .entry)) (now (message .entry)) ≡ answered r (now (message .exit)) ⌝ }
+pub fn read_word(q: u8, series: u8, m: usize, word: &[u8], message: &mut [u8]) -> Outcome
+    requires { ⌜ Readable q (columnsOf q series) m (now word) (now message) × IsShort q ⌝ }
+    ensures { λ r. ⌜ readOver q (columnsOf q series) m (now (word .entry)) (now (message .entry)) ≡ answered r (now (message .exit)) ⌝ }
 {
     let n = word.len();
-    let grid = interpolate_short(q, word);
+    let grid = interpolate_short(q, series, word);
     read_grid(q, m, &grid[..n], message)
 }
 
 // The message of a long block's word.
-pub fn read_long_word(m: usize, word: &[u8], message: &mut [u8]) -> Outcome
-    requires { ⌜ Readable 8 (columnsOf 8) m (now word) (now message) ⌝ }
-    ensures { λ r. ⌜ readOver 8 (columnsOf 8) m (now (word .entry)) (now (message .entry)) ≡ answered r (now (message .exit)) ⌝ }
+pub fn read_long_word(series: u8, m: usize, word: &[u8], message: &mut [u8]) -> Outcome
+    requires { ⌜ Readable 8 (columnsOf 8 series) m (now word) (now message) ⌝ }
+    ensures { λ r. ⌜ readOver 8 (columnsOf 8 series) m (now (word .entry)) (now (message .entry)) ≡ answered r (now (message .exit)) ⌝ }
 {
-    let grid = interpolate_long(word);
+    let grid = interpolate_long(series, word);
     read_grid(8, m, &grid, message)
 }
 
-// The message whose word, in the order of the points, is the word.
-pub fn unencode(q: u8, m: u16, word: &[u8], message: &mut [u8]) -> Outcome
-    ensures { λ r. ⌜ unencoded q m (now (word .entry)) (now (message .entry)) ≡ answered r (now (message .exit)) ⌝ }
+// The message whose word, in the order of the series' points, is the word.
+pub fn unencode(q: u8, series: u8, m: u16, word: &[u8], message: &mut [u8]) -> Outcome
+    ensures { λ r. ⌜ unencoded q series m (now (word .entry)) (now (message .entry)) ≡ answered r (now (message .exit)) ⌝ }
 {
     let order = m as usize;
     let taken = field::curve::is_curve(q);
-    let checked = check::call(taken, false, true, q, order, word, message.len());
+    let checked = check::call(taken, false, true, q, series, order, word, message.len());
     let Outcome::Done = checked else {
         return checked;
     };
     if q == 8 {
-        return long_block::run(true, order, word, message);
+        return long_block::run(true, series, order, word, message);
     }
-    read_word(q, order, word, message)
+    read_word(q, series, order, word, message)
 }

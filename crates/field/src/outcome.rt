@@ -27,6 +27,8 @@ pub enum Outcome {
     // request T-10: numbers 15, places that aren't k ascending ones below n, and 16, places that don't fix the codeword
     BadPlaces,
     NoInformationSet,
+    // request T-11: number 17, a strap series that is neither 1 nor 2, tested after 1
+    BadSeries,
 }
 
 // The refusal number, 0 for Done.
@@ -50,6 +52,7 @@ pub fn number(o: Outcome) -> u8
         Outcome::BadWork => 14,
         Outcome::BadPlaces => 15,
         Outcome::NoInformationSet => 16,
+        Outcome::BadSeries => 17,
     }
 }
 
@@ -74,6 +77,7 @@ pub fn second(o: Outcome) -> u16
         Outcome::BadWork => 0,
         Outcome::BadPlaces => 0,
         Outcome::NoInformationSet => 0,
+        Outcome::BadSeries => 0,
     }
 }
 

@@ -7,14 +7,15 @@ use field::outcome;
 
 #[no_mangle]
 pub extern "C" fn hermitian_recover_long(
+    series: u8,
     m: u16,
     word: &[u8],
     message: &mut [u8],
     work: &mut [u8],
 ) -> u32
-    ensures { λ r. ⌜ Packed (recoveredLong m (now (word .entry)) (now (message .entry)) (length (now (work .entry)))) r (now (message .exit)) ⌝ }
-    ensures { λ r. ⌜ KeptUnlessWorked (recoveredLong m (now (word .entry)) (now (message .entry)) (length (now (work .entry))) .outcome)
+    ensures { λ r. ⌜ Packed (recoveredLong series m (now (word .entry)) (now (message .entry)) (length (now (work .entry)))) r (now (message .exit)) ⌝ }
+    ensures { λ r. ⌜ KeptUnlessWorked (recoveredLong series m (now (word .entry)) (now (message .entry)) (length (now (work .entry))) .outcome)
         (now (work .entry)) (now (work .exit)) ⌝ }
 {
-    outcome::packed(recovery::recover_long(m, word, message, work))
+    outcome::packed(recovery::recover_long(series, m, word, message, work))
 }

@@ -73,7 +73,7 @@ answer-message (several n) a b e = let z : _≡_ {A = ℕ} 0 1 = cc in absurd (o
 -- ---- one call
 
 pub stays : (t : Task) → onward t 0 ≡ t
-stays t = let e : t .done + 0 ≡ t .done = omega arith in ap (λ (d : ℕ). record { q = t .q; m = t .m; word = t .word; done = d }) e
+stays t = let e : t .done + 0 ≡ t .done = omega arith in ap (λ (d : ℕ). record { q = t .q; series = t .series; m = t .m; word = t .word; done = d }) e
 
 module _ (t : Task) (n : ℕ) (slice : List ℕ) where
   pub replied-more : t .done < arrivedIn (t .word) → replied t n slice ≡ working t n slice
@@ -142,7 +142,7 @@ after-total (c ∷ rest) t =
     let u = carried t (c .budget) (c .slice) in
     after-total rest (u .task) ∙ ap (λ (s : Task). onward s (total (u .task) rest)) (carried-task t (c .budget) (c .slice))
     ∙ (let e : t .done + u .brought + total (u .task) rest ≡ t .done + (u .brought + total (u .task) rest) = omega arith in
-    ap (λ (d : ℕ). record { q = t .q; m = t .m; word = t .word; done = d }) e)
+    ap (λ (d : ℕ). record { q = t .q; series = t .series; m = t .m; word = t .word; done = d }) e)
 
 total-within : (calls : List Call) (t : Task) → t .done ≤ arrivedIn (t .word) → t .done + total t calls ≤ arrivedIn (t .word)
 unfolding total
@@ -158,20 +158,20 @@ total-within (c ∷ rest) t h =
 
 -- ---- the claim
 
-module _ (q m : ℕ) (word : List ℕ) (accepted : openChecks q m word ≡ Done) where
+module _ (q series m : ℕ) (word : List ℕ) (accepted : openChecks q series m word ≡ Done) where
   abbrev at : ℕ → Task
-  at d = record { q = q; m = m; word = word; done = d }
+  at d = record { q = q; series = series; m = m; word = word; done = d }
 
   -- a finished job tells what recovery does
-  tells : (d : ℕ) → arrivedIn word ≤ d → (slice : List ℕ) → length slice ≡ size q m → answerOf (standing (at d)) slice ≡ recovered q m word slice
+  tells : (d : ℕ) → arrivedIn word ≤ d → (slice : List ℕ) → length slice ≡ size q m → answerOf (standing (at d)) slice ≡ recovered q series m word slice
   tells d l slice e =
-      ap (λ (w : List ℕ). answerOf (readingOf q m w) slice) (brought-all word d l) ∙ sym (recovers q m word accepted slice e)
+      ap (λ (w : List ℕ). answerOf (readingOf q series m w) slice) (brought-all word d l) ∙ sym (recovers q series m word accepted slice e)
 
   module _ (d : ℕ) (h : d ≤ arrivedIn word) (budget : ℕ) (slice : List ℕ) where
     abbrev n : ℕ
     n = smaller budget (arrivedIn word - d)
 
-    on-refusal : (length slice ≡ size q m → ⊥) → Called q m word (at d) d budget slice (refusal (at d) slice)
+    on-refusal : (length slice ≡ size q m → ⊥) → Called q series m word (at d) d budget slice (refusal (at d) slice)
     on-refusal x =
         record {
           room = λ y. refl;
@@ -185,11 +185,11 @@ module _ (q m : ℕ) (word : List ℕ) (accepted : openChecks q m word ≡ Done)
           rests = λ e. (refl, refl);
           again = λ o e. let z : _≡_ {A = ℕ} 0 1 = cc in absurd (omega arith);
           finished = λ o e. let z : _≡_ {A = ℕ} 0 1 = cc in absurd (omega arith);
-          ends = λ e. let r = recovers-room q m word accepted slice x in
+          ends = λ e. let r = recovers-room q series m word accepted slice x in
               ((refl, sym (ap (λ (a : Answer). a .outcome) r)), sym (ap (λ (a : Answer). a .slice) r));
         }
 
-    on-working : length slice ≡ size q m → d + n < arrivedIn word → Called q m word (at d) d budget slice (working (at (d + n)) n slice)
+    on-working : length slice ≡ size q m → d + n < arrivedIn word → Called q series m word (at d) d budget slice (working (at (d + n)) n slice)
     on-working e l =
         record {
           room = λ x. absurd (x e);
@@ -197,8 +197,8 @@ module _ (q m : ℕ) (word : List ℕ) (accepted : openChecks q m word ≡ Done)
           brings = λ x. (refl, refl);
           works = λ x. (λ s. l, λ k. still (standing (at (d + n))));
           left = λ s. refl;
-          says-none = λ s. says-none q m (open-curve q m word accepted) word (open-broken q m word accepted) (d + n);
-          says-left = λ s. says-left q m (open-curve q m word accepted) word (open-broken q m word accepted) (d + n);
+          says-none = λ s. says-none q series m (open-curve q series m word accepted) word (open-broken q series m word accepted) (d + n);
+          says-left = λ s. says-left q series m (open-curve q series m word accepted) word (open-broken q series m word accepted) (d + n);
           kept = inl refl;
           rests = λ x. absurd (omega arith);
           again = λ o x. apart (standing (at (d + n))) (Finished o) x refl;
@@ -206,7 +206,7 @@ module _ (q m : ℕ) (word : List ℕ) (accepted : openChecks q m word ≡ Done)
           ends = λ x. absurd (omega arith);
         }
 
-    on-ending : length slice ≡ size q m → arrivedIn word ≤ d + n → Called q m word (at d) d budget slice (ending (at (d + n)) n slice)
+    on-ending : length slice ≡ size q m → arrivedIn word ≤ d + n → Called q series m word (at d) d budget slice (ending (at (d + n)) n slice)
     on-ending e l =
         let le = smaller-le budget (arrivedIn word - d) in
         let o = answerOf (standing (at (d + n))) slice .outcome in
@@ -234,41 +234,41 @@ module _ (q m : ℕ) (word : List ℕ) (accepted : openChecks q m word ≡ Done)
           ends = λ x. ((refl, ap (λ (a : Answer). a .outcome) r), ap (λ (a : Answer). a .slice) r);
         }
 
-    pub called : Called q m word (at d) d budget slice (carried (at d) budget slice)
+    pub called : Called q series m word (at d) d budget slice (carried (at d) budget slice)
     called = go (way (at d) budget slice)
       where
-        go : Way (at d) budget slice → Called q m word (at d) d budget slice (carried (at d) budget slice)
-        go (refuses x e) = subst (Called q m word (at d) d budget slice) (sym e) (on-refusal x)
-        go (goes-on x l e) = subst (Called q m word (at d) d budget slice) (sym e) (on-working x l)
-        go (ends x l e) = subst (Called q m word (at d) d budget slice) (sym e) (on-ending x l)
+        go : Way (at d) budget slice → Called q series m word (at d) d budget slice (carried (at d) budget slice)
+        go (refuses x e) = subst (Called q series m word (at d) d budget slice) (sym e) (on-refusal x)
+        go (goes-on x l e) = subst (Called q series m word (at d) d budget slice) (sym e) (on-working x l)
+        go (ends x l e) = subst (Called q series m word (at d) d budget slice) (sym e) (on-ending x l)
 
   abbrev start : Task
-  start = opened q m word .task
+  start = opened q series m word .task
 
   same : (calls : List Call) → taskAfter start calls ≡ at (total start calls)
   same calls =
-      after-total calls start ∙ ap (λ (s : Task). onward s (total start calls)) (opened-done q m word accepted)
+      after-total calls start ∙ ap (λ (s : Task). onward s (total start calls)) (opened-done q series m word accepted)
       ∙ (let e : 0 + total start calls ≡ total start calls = omega arith in ap at e)
 
   within : (calls : List Call) → total start calls ≤ arrivedIn word
   within calls =
-      let e = opened-done q m word accepted in
+      let e = opened-done q series m word accepted in
       let w : start .word ≡ word = ap (λ (s : Task). s .word) e in
       let d : start .done ≡ 0 = ap (λ (s : Task). s .done) e in
       let a : arrivedIn (start .word) ≡ arrivedIn word = ap arrivedIn w in
       omega (arith, total-within calls start (omega arith))
 
-  claim : (calls : List Call) → Claim q m word calls
+  claim : (calls : List Call) → Claim q series m word calls
   claim calls =
       record {
         same = same calls;
         within = within calls;
         next = λ budget slice.
-            subst (λ (t : Task). Called q m word t (total start calls) budget slice (carried t budget slice)) (sym (same calls))
+            subst (λ (t : Task). Called q series m word t (total start calls) budget slice (carried t budget slice)) (sym (same calls))
             (called (total start calls) (within calls) budget slice);
       }
 
 -- of every list of calls on the job of an accepted opening
-pub jobs : (q m : ℕ) (word : List ℕ) → Says (opened q m word .outcome) 0 0 → (calls : List Call) → Claim q m word calls
-jobs q m word accepted calls =
-    claim q m word (sym (opened-outcome q m word) ∙ says (opened q m word .outcome) Done .0 accepted) calls
+pub jobs : (q series m : ℕ) (word : List ℕ) → Says (opened q series m word .outcome) 0 0 → (calls : List Call) → Claim q series m word calls
+jobs q series m word accepted calls =
+    claim q series m word (sym (opened-outcome q series m word) ∙ says (opened q series m word .outcome) Done .0 accepted) calls

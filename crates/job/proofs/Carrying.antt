@@ -15,7 +15,7 @@ use Rattle.field.proofs.Curves.{sizes, short-sizes, short-curve}
 use Rattle.poly.specs.Messages.{Vector}
 use Rattle.poly.specs.inner.Rows.{stored}
 use Rattle.poly.proofs.Entries.{copied}
-use Rattle.points.specs.Points.{columnsOf}
+use Rattle.points.specs.Series.{columnsOf}
 use Rattle.code.specs.Terms.{size}
 use Rattle.code.specs.inner.Recovering.{BrokenOver}
 use Rattle.job.specs.declared.bringing.Progress.{Progress}
@@ -34,12 +34,12 @@ use Rattle.job.proofs.Results.{done-after, stopped-more, share-brought,
 
 -- ---- a sound job passes the test
 
-stored-long : (j : Job) → length (j .places) ≡ 64 → openChecks (j .q) (j .m) (storedWord j) ≡ Done → length (storedWord j) ≡ j .q * j .q * j .q
+stored-long : (j : Job) → length (j .places) ≡ 64 → openChecks (j .q) (j .series) (j .m) (storedWord j) ≡ Done → length (storedWord j) ≡ j .q * j .q * j .q
 stored-long j long passes =
-    length-take-le (j .q * j .q * j .q) (j .places) (omega (arith, short-sizes (j .q) (open-block (j .q) (j .m) (storedWord j) passes) .points))
+    length-take-le (j .q * j .q * j .q) (j .places) (omega (arith, short-sizes (j .q) (open-block (j .q) (j .series) (j .m) (storedWord j) passes) .points))
 
 pub sound-tested : (j : Job) → Sound j → length (j .places) ≡ 64
-    → Tested (j .q) (j .m) (j .places) (j .next) (j .work) (j .candidate) (j .complete) (j .clash)
+    → Tested (j .q) (j .series) (j .m) (j .places) (j .next) (j .work) (j .candidate) (j .complete) (j .clash)
 sound-tested j h long =
     record {
       passes = h .passes;
@@ -48,7 +48,7 @@ sound-tested j h long =
     }
   where
     go : (complete clash : Bool)
-        → Standing (j .q) (j .m) (storedWord j) (j .work) (take (size (j .q) (j .m)) (j .candidate)) (take (length (storedWord j)) (j .whole))
+        → Standing (j .q) (j .series) (j .m) (storedWord j) (j .work) (take (size (j .q) (j .m)) (j .candidate)) (take (length (storedWord j)) (j .whole))
         (j .next)
         complete clash
         → Usable (j .q) (j .m) (j .work) (take (size (j .q) (j .m)) (j .candidate)) complete clash
@@ -65,25 +65,25 @@ pub record Given (j : Job) (k n : ℕ) : Type 0 where
   pub places-long : length (j .places) ≡ 64
   pub candidate-long : length (j .candidate) ≡ 64
   pub whole-long : length (j .whole) ≡ 64
-  pub tested : Tested (j .q) (j .m) (j .places) (j .next) (j .work) (j .candidate) (j .complete) (j .clash)
+  pub tested : Tested (j .q) (j .series) (j .m) (j .places) (j .next) (j .work) (j .candidate) (j .complete) (j .clash)
 
 -- what `bring` leaves of it
 pub record Left (j : Job) (k n budget : ℕ) (work candidate whole : List ℕ) (r : Progress) : Type 0 where
   pub candidate-kept : length candidate ≡ length (take k (j .candidate))
   pub whole-kept : length whole ≡ length (take n (j .whole))
-  pub brings : Brings (j .q) (j .m) (take n (j .places)) budget (j .work) (take k (j .candidate)) (take n (j .whole)) (j .next) (j .complete)
+  pub brings : Brings (j .q) (j .series) (j .m) (take n (j .places)) budget (j .work) (take k (j .candidate)) (take n (j .whole)) (j .next) (j .complete)
       (j .clash)
       work candidate whole r
 
 module _ (j : Job) (k n : ℕ) (g : Given j k n) where
   pub block : IsShort (j .q)
-  block = open-block (j .q) (j .m) (storedWord j) (g .tested .passes)
+  block = open-block (j .q) (j .series) (j .m) (storedWord j) (g .tested .passes)
 
   order : j .m < j .q * j .q * j .q
-  order = open-order (j .q) (j .m) (storedWord j) (g .tested .passes)
+  order = open-order (j .q) (j .series) (j .m) (storedWord j) (g .tested .passes)
 
   pub short : k < 64
-  short = omega (arith, g .is-k, open-short (j .q) (j .m) (storedWord j) (g .tested .passes))
+  short = omega (arith, g .is-k, open-short (j .q) (j .series) (j .m) (storedWord j) (g .tested .passes))
 
   pub few : n ≤ 64
   few = omega (arith, g .is-n, short-sizes (j .q) block .points)
@@ -109,7 +109,7 @@ module _ (j : Job) (k n : ℕ) (g : Given j k n) where
   whole-taken : length (take n (j .whole)) ≡ n
   whole-taken = length-take-le n (j .whole) whole-fits
 
-  pub asked : (IsShort (j .q) × (j .m < j .q * j .q * j .q) × BrokenOver (j .q) (columnsOf (j .q)) (j .m) (take n (j .places))
+  pub asked : (IsShort (j .q) × (j .m < j .q * j .q * j .q) × BrokenOver (j .q) (columnsOf (j .q) (j .series)) (j .m) (take n (j .places))
       × (k ≡ size (j .q) (j .m)) × (j .next ≤ length (take n (j .places))))
       × ((length (take k (j .candidate)) ≡ size (j .q) (j .m)) × (length (take n (j .whole)) ≡ length (take n (j .places)))
       × Usable (j .q) (j .m) (j .work) (take k (j .candidate)) (j .complete) (j .clash))
@@ -117,7 +117,7 @@ module _ (j : Job) (k n : ℕ) (g : Given j k n) where
     (
       block,
       order,
-      subst (BrokenOver (j .q) (columnsOf (j .q)) (j .m)) (sym word-is) (open-broken (j .q) (j .m) (storedWord j) (g .tested .passes)),
+      subst (BrokenOver (j .q) (columnsOf (j .q) (j .series)) (j .m)) (sym word-is) (open-broken (j .q) (j .series) (j .m) (storedWord j) (g .tested .passes)),
       g .is-k,
       omega (arith, g .is-n, g .tested .within, ap length word-is, word-long),
     ),
@@ -139,6 +139,7 @@ module _ (j : Job) (k n : ℕ) (g : Given j k n) where
           candidate = candidate ++ drop k (j .candidate);
           whole = whole ++ drop n (j .whole);
           q = j .q;
+          series = j .series;
           m = j .m;
           next = r .next;
           complete = eqb (r .rank) k;
@@ -146,16 +147,16 @@ module _ (j : Job) (k n : ℕ) (g : Given j k n) where
         }
 
     -- by k and n themselves
-    brought : Brings (j .q) (j .m) (storedWord j) budget (j .work) (take (size (j .q) (j .m)) (j .candidate)) (take (length (storedWord j))
+    brought : Brings (j .q) (j .series) (j .m) (storedWord j) budget (j .work) (take (size (j .q) (j .m)) (j .candidate)) (take (length (storedWord j))
         (j .whole))
         (j .next) (j .complete) (j .clash) work candidate whole r
     brought =
-        subst (λ (x : ℕ). Brings (j .q) (j .m) (storedWord j) budget (j .work) (take (size (j .q) (j .m)) (j .candidate)) (take x (j .whole))
+        subst (λ (x : ℕ). Brings (j .q) (j .series) (j .m) (storedWord j) budget (j .work) (take (size (j .q) (j .m)) (j .candidate)) (take x (j .whole))
         (j .next)
         (j .complete) (j .clash) work candidate whole r) (sym word-long)
-        (subst (λ (x : ℕ). Brings (j .q) (j .m) (storedWord j) budget (j .work) (take x (j .candidate)) (take n (j .whole)) (j .next) (j .complete)
+        (subst (λ (x : ℕ). Brings (j .q) (j .series) (j .m) (storedWord j) budget (j .work) (take x (j .candidate)) (take n (j .whole)) (j .next) (j .complete)
         (j .clash) work candidate whole r) (g .is-k)
-        (subst (λ (x : List ℕ). Brings (j .q) (j .m) x budget (j .work) (take k (j .candidate)) (take n (j .whole)) (j .next) (j .complete) (j .clash)
+        (subst (λ (x : List ℕ). Brings (j .q) (j .series) (j .m) x budget (j .work) (take k (j .candidate)) (take n (j .whole)) (j .next) (j .complete) (j .clash)
         work candidate whole r) word-is (left .brings)))
 
     -- the array of the candidate has its length again, and k of it can be copied
@@ -172,7 +173,7 @@ module _ (j : Job) (k n : ℕ) (g : Given j k n) where
     rows-fit e = omega (arith, g .is-k, brought .rows e)
 
     module _ (h : Sound j) where
-      stands : Standing (j .q) (j .m) (storedWord j) work candidate whole (r .next) (eqb (r .rank) (size (j .q) (j .m))) (r .clash)
+      stands : Standing (j .q) (j .series) (j .m) (storedWord j) work candidate whole (r .next) (eqb (r .rank) (size (j .q) (j .m))) (r .clash)
       stands = brought .stands (h .stands)
 
       pub sound-after : Sound after
@@ -181,13 +182,13 @@ module _ (j : Job) (k n : ℕ) (g : Given j k n) where
             passes = h .passes;
             within = brought .counts .within;
             stands =
-                subst (λ (x : List ℕ). Standing (j .q) (j .m) (storedWord j) work x (take (length (storedWord j)) (whole ++ drop n (j .whole)))
+                subst (λ (x : List ℕ). Standing (j .q) (j .series) (j .m) (storedWord j) work x (take (length (storedWord j)) (whole ++ drop n (j .whole)))
                 (r .next)
                 (eqb (r .rank) k) (r .clash)) (sym (take-at candidate (drop k (j .candidate)) (size (j .q) (j .m)) (left .candidate-kept
                 ∙ candidate-taken ∙ g .is-k)))
-                (subst (λ (x : List ℕ). Standing (j .q) (j .m) (storedWord j) work candidate x (r .next) (eqb (r .rank) k) (r .clash))
+                (subst (λ (x : List ℕ). Standing (j .q) (j .series) (j .m) (storedWord j) work candidate x (r .next) (eqb (r .rank) k) (r .clash))
                 (sym (take-at whole (drop n (j .whole)) (length (storedWord j)) (left .whole-kept ∙ whole-taken ∙ sym word-long)))
-                (subst (λ (x : ℕ). Standing (j .q) (j .m) (storedWord j) work candidate whole (r .next) (eqb (r .rank) x) (r .clash)) (sym
+                (subst (λ (x : ℕ). Standing (j .q) (j .series) (j .m) (storedWord j) work candidate whole (r .next) (eqb (r .rank) x) (r .clash)) (sym
                 (g .is-k)) stands));
           }
 
@@ -199,7 +200,7 @@ module _ (j : Job) (k n : ℕ) (g : Given j k n) where
             carried-takes (taskOf j) budget slice (room ∙ g .is-k)
             ∙ ap (λ (b : ℕ). replied (onward (taskOf j) b) b slice)
             (share-brought (storedWord j) budget (j .next) (r .next) (r .brought) c (brought .stops))
-            ∙ ap (λ (d : ℕ). replied (record { q = j .q; m = j .m; word = storedWord j; done = d }) (r .brought) slice)
+            ∙ ap (λ (d : ℕ). replied (record { q = j .q; series = j .series; m = j .m; word = storedWord j; done = d }) (r .brought) slice)
             (done-after (storedWord j) budget (j .next) (r .next) (r .brought) c)
 
         abbrev answer : Reply → List ℕ → Result
@@ -214,7 +215,7 @@ module _ (j : Job) (k n : ℕ) (g : Given j k n) where
             let given = gives k n r (sym e ∙ d) in
             let all : r .next ≡ length (storedWord j) = omega (arith, given .all, word-long, brought .counts .within) in
             goes-on
-            ∙ replied-message (j .q) (j .m) (storedWord j) (h .passes) work candidate whole r (brought .counts .within) (brought .rows)
+            ∙ replied-message (j .q) (j .series) (j .m) (storedWord j) (h .passes) work candidate whole r (brought .counts .within) (brought .rows)
             (brought .fewer)
             stands (r .brought) slice all (given .clear) (omega (arith, given .full, g .is-k))
             ∙ ap (λ (x : Reply). answer x candidate) (sym d) ∙ ap (answer reply) (sym o)
@@ -222,7 +223,7 @@ module _ (j : Job) (k n : ℕ) (g : Given j k n) where
         pub gives-other : (reply : Reply) → reply ≡ replyBy k n r → (reply ≡ Finished Done → ⊥) → carried (taskOf j) budget slice ≡ answer reply slice
         gives-other reply e d =
             goes-on
-            ∙ replied-other (j .q) (j .m) (storedWord j) (h .passes) work candidate whole r (brought .counts .within) (brought .rows) (brought .fewer)
+            ∙ replied-other (j .q) (j .series) (j .m) (storedWord j) (h .passes) work candidate whole r (brought .counts .within) (brought .rows) (brought .fewer)
             stands (r .brought) slice
             (stopped-more (storedWord j) budget (j .next) (r .next) (r .brought) (brought .counts) (brought .stops))
             (λ f. d (e ∙ sym same-reply ∙ f))

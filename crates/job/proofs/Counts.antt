@@ -13,8 +13,8 @@ use Rattle.field.proofs.Curves.{sizes, two-symbols}
 use Rattle.poly.specs.Sets.{ListOf, Exactly}
 use Rattle.poly.proofs.Sets.{same-length, list-iff}
 use Rattle.linear.proofs.Elimination.{PowerOrNone}
-use Rattle.points.specs.Points.{columnsOf}
-use Rattle.points.proofs.ColumnPoints.{full-places}
+use Rattle.points.specs.Series.{columnsOf}
+use Rattle.points.proofs.Series.{full-places}
 use Rattle.code.specs.Terms.{size}
 use Rattle.code.specs.Word.{wordOf}
 use Rattle.code.specs.Exponent.{exponent}
@@ -64,14 +64,14 @@ module _ (Q : ℕ) (two-le : 1 < Q) (Fit : List ℕ → Type 0) where
         ap Leaves (ap (exponent Q) c ∙ exponent-power Q r two-le),
   )
 
-module _ (q m : ℕ) (curve : IsCurve q) (word : List ℕ) (h : BrokenOver q (columnsOf q) m word) (n : ℕ) where
+module _ (q series m : ℕ) (curve : IsCurve q) (word : List ℕ) (h : BrokenOver q (columnsOf q series) m word) (n : ℕ) where
   abbrev wordFrom : List ℕ → List ℕ
-  wordFrom = wordOf q (columnsOf q) m
+  wordFrom = wordOf q (columnsOf q series) m
 
   abbrev fit : List (List ℕ)
   fit = fitting (q * q) (size q m) wordFrom (broughtIn word n)
 
-  fits-iff : (v : List ℕ) → Fitting (q * q) (size q m) wordFrom (broughtIn word n) v ↔ FitsLowest q m word n v
+  fits-iff : (v : List ℕ) → Fitting (q * q) (size q m) wordFrom (broughtIn word n) v ↔ FitsLowest q series m word n v
   fits-iff v = (
     λ f. record {
       symbols = f .vector;
@@ -92,27 +92,27 @@ module _ (q m : ℕ) (curve : IsCurve q) (word : List ℕ) (h : BrokenOver q (co
     },
   )
 
-  fit-list : ListOf (FitsLowest q m word n) fit
+  fit-list : ListOf (FitsLowest q series m word n) fit
   fit-list =
-      list-iff (Fitting (q * q) (size q m) wordFrom (broughtIn word n)) (FitsLowest q m word n) fit fits-iff
+      list-iff (Fitting (q * q) (size q m) wordFrom (broughtIn word n)) (FitsLowest q series m word n) fit fits-iff
       (fitting-list (q * q) (size q m) wordFrom (broughtIn word n))
 
   broken : Broken q (broughtIn word n)
   broken =
       record {
-        len = length-brought word n ∙ h .long ∙ full-places q curve;
+        len = length-brought word n ∙ h .long ∙ full-places q series curve;
         value = λ p l.
-            let b : p < length word = omega (arith, h .long, full-places q curve) in
+            let b : p < length word = omega (arith, h .long, full-places q series curve) in
             ⊎-elim (λ e. inl e)
             (λ e. rw e (⊎-elim (λ g. inl g) (λ g. inr (omega (arith, sizes q curve .size))) (h .value p b))) (brought-value word n p b);
       }
 
-  pub says-none : (leaves (readingOf q m (broughtIn word n)) ≡ NoneFits) ↔ ((v : List ℕ) → FitsLowest q m word n v → ⊥)
+  pub says-none : (leaves (readingOf q series m (broughtIn word n)) ≡ NoneFits) ↔ ((v : List ℕ) → FitsLowest q series m word n v → ⊥)
   unfolding reading
-  says-none = leaves-none (q * q) (two-symbols q curve) (FitsLowest q m word n) fit fit-list
+  says-none = leaves-none (q * q) (two-symbols q curve) (FitsLowest q series m word n) fit fit-list
 
-  pub says-left : (r : ℕ) → (leaves (readingOf q m (broughtIn word n)) ≡ Leaves r) ↔ Exactly ((q * q) ^ r) (FitsLowest q m word n)
+  pub says-left : (r : ℕ) → (leaves (readingOf q series m (broughtIn word n)) ≡ Leaves r) ↔ Exactly ((q * q) ^ r) (FitsLowest q series m word n)
   unfolding reading
   says-left =
-      leaves-count (q * q) (two-symbols q curve) (FitsLowest q m word n) fit fit-list
-      (rw (length-fitting (q * q) (size q m) wordFrom (broughtIn word n)) (facts q m curve .power (broughtIn word n) broken))
+      leaves-count (q * q) (two-symbols q curve) (FitsLowest q series m word n) fit fit-list
+      (rw (length-fitting (q * q) (size q m) wordFrom (broughtIn word n)) (facts q series m curve .power (broughtIn word n) broken))

@@ -52,12 +52,12 @@ module _ (word : List ℕ) (budget p₀ p b : ℕ) (counts : Counted word budget
 
 -- ---- the reply and the slice
 
-module _ (q m : ℕ) (word : List ℕ) (accepted : openChecks q m word ≡ Done) (work candidate whole : List ℕ) (r : Progress)
+module _ (q series m : ℕ) (word : List ℕ) (accepted : openChecks q series m word ≡ Done) (work candidate whole : List ℕ) (r : Progress)
     (within : r .next ≤ length word) (rows : r .clash ≡ false → r .rank ≤ size q m)
     (fewer : r .clash ≡ false → r .rank < size q m → r .rank ≡ rank (size q m) (flat 64 (size q m) work))
-    (stands : Standing q m word work candidate whole (r .next) (eqb (r .rank) (size q m)) (r .clash)) where
+    (stands : Standing q series m word work candidate whole (r .next) (eqb (r .rank) (size q m)) (r .clash)) where
   abbrev after : Task
-  after = record { q = q; m = m; word = word; done = arrivedIn (take (r .next) word) }
+  after = record { q = q; series = series; m = m; word = word; done = arrivedIn (take (r .next) word) }
 
   abbrev k : ℕ
   k = size q m
@@ -67,22 +67,22 @@ module _ (q m : ℕ) (word : List ℕ) (accepted : openChecks q m word ≡ Done)
 
   reads-none : r .clash ≡ true → standing after ≡ nothing
   reads-none e =
-      seen-none q m word (open-broken q m word accepted) (r .next) within (open-curve q m word accepted)
-      (stands-none q m word work candidate whole (r .next) (eqb (r .rank) k) (r .clash) e stands)
+      seen-none q series m word (open-broken q series m word accepted) (r .next) within (open-curve q series m word accepted)
+      (stands-none q series m word work candidate whole (r .next) (eqb (r .rank) k) (r .clash) e stands)
 
   reads-several : r .clash ≡ false → r .rank < k → standing after ≡ several (k - r .rank)
   reads-several e l =
-      let c = stands-collected q m word work candidate whole (r .next) (eqb (r .rank) k) (r .clash) (ne-eqb (r .rank) k
+      let c = stands-collected q series m word work candidate whole (r .next) (eqb (r .rank) k) (r .clash) (ne-eqb (r .rank) k
       (λ x. omega arith)) e stands in
       let z = fewer e l in
-      seen-several q m word (open-broken q m word accepted) (r .next) within (open-curve q m word accepted) work (rank k (flat 64 k work)) c
+      seen-several q series m word (open-broken q series m word accepted) (r .next) within (open-curve q series m word accepted) work (rank k (flat 64 k work)) c
       (omega arith)
       ∙ ap (λ (x : ℕ). several (k - x)) (sym z)
 
   reads-message : r .clash ≡ false → k ≤ r .rank → standing after ≡ message candidate
   reads-message e l =
-      seen-only q m word (open-broken q m word accepted) (r .next) within (open-curve q m word accepted) candidate whole
-      (stands-only q m word work candidate whole (r .next) (eqb (r .rank) k) (r .clash) (eq-eqb (r .rank) k (omega (arith, rows e))) e stands)
+      seen-only q series m word (open-broken q series m word accepted) (r .next) within (open-curve q series m word accepted) candidate whole
+      (stands-only q series m word work candidate whole (r .next) (eqb (r .rank) k) (r .clash) (eq-eqb (r .rank) k (omega (arith, rows e))) e stands)
 
   module _ (b : ℕ) (slice : List ℕ) where
     -- the task after the call tells by its reading

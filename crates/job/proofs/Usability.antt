@@ -100,25 +100,25 @@ module _ (q : ℕ) (curve : IsCurve q) (k m : ℕ) (is-size : k ≡ size q m) (w
 
 -- ---- all tests
 
--- checks 1 to 4 are those of a call with room for k
-pub opening-asked : (q m : ℕ) (word : List ℕ) (o : Outcome) (taken : Bool) (k : ℕ) → o ≡ callChecks taken true true q m word k Done → taken ≡ isShort q
-    → k ≡ size q m → o ≡ openChecks q m word
-opening-asked q m word o taken k f t e = f ∙ ap₂ (λ (b : Bool) (n : ℕ). callChecks b true true q m word n Done) t e
+-- checks 1, 17 and 2 to 4 are those of a call with room for k
+pub opening-asked : (q series m : ℕ) (word : List ℕ) (o : Outcome) (taken : Bool) (k : ℕ) → o ≡ callChecks taken true true q series m word k Done → taken ≡ isShort q
+    → k ≡ size q m → o ≡ openChecks q series m word
+opening-asked q series m word o taken k f t e = f ∙ ap₂ (λ (b : Bool) (n : ℕ). callChecks b true true q series m word n Done) t e
 
-module _ (q m : ℕ) (places : List ℕ) (next : ℕ) (work candidate : List ℕ) (complete clash : Bool) where
+module _ (q series m : ℕ) (places : List ℕ) (next : ℕ) (work candidate : List ℕ) (complete clash : Bool) where
   abbrev All : Type 0
-  All = Tested q m places next work candidate complete clash
+  All = Tested q series m places next work candidate complete clash
 
   fails : (All → ⊥) → (false ≡ true) ↔ All
   fails n = (λ e. absurd (false≢true e), λ h. absurd (n h))
 
   pub tested-curve : isShort q ≡ false → (false ≡ true) ↔ All
-  tested-curve e = fails (λ h. false≢true (sym e ∙ short-true q (open-block q m (take (q * q * q) places) (h .passes))))
+  tested-curve e = fails (λ h. false≢true (sym e ∙ short-true q (open-block q series m (take (q * q * q) places) (h .passes))))
 
   -- n is the length of the word, and o what the checks said
-  module _ (n : ℕ) (is-points : n ≡ q * q * q) (o : Outcome) (f : o ≡ openChecks q m (take n places)) where
-    said : openChecks q m (take (q * q * q) places) ≡ o
-    said = sym (f ∙ ap (λ (x : ℕ). openChecks q m (take x places)) is-points)
+  module _ (n : ℕ) (is-points : n ≡ q * q * q) (o : Outcome) (f : o ≡ openChecks q series m (take n places)) where
+    said : openChecks q series m (take (q * q * q) places) ≡ o
+    said = sym (f ∙ ap (λ (x : ℕ). openChecks q series m (take x places)) is-points)
 
     pub tested-refused : eqb (number o) 0 ≡ false → (false ≡ true) ↔ All
     tested-refused r = fails (λ h. done-or-not o (sym said ∙ h .passes) r)

@@ -8,7 +8,7 @@ use lib.Dec.{eqb, leb, ltb}
 use lib.ListN.{length}
 use Rattle.field.specs.declared.outcome.Outcome.the-variants.{Done}
 use Rattle.poly.specs.Messages.{Vector}
-use Rattle.points.specs.Points.{columnsOf}
+use Rattle.points.specs.Series.{columnsOf}
 use Rattle.code.specs.Terms.{size}
 use Rattle.code.specs.Word.{wordOf}
 use Rattle.code.specs.Recovered.{Reading, nothing, message, several, reading, answerOf}
@@ -19,7 +19,7 @@ use Rattle.job.specs.Task.{Task}
 
 -- what the symbols brought in so far leave
 abbrev pub standing : Task → Reading
-standing t = reading (t .q * t .q) (size (t .q) (t .m)) (wordOf (t .q) (columnsOf (t .q)) (t .m)) (broughtIn (t .word) (t .done))
+standing t = reading (t .q * t .q) (size (t .q) (t .m)) (wordOf (t .q) (columnsOf (t .q) (t .series)) (t .m)) (broughtIn (t .word) (t .done))
 
 -- "'none' if no message fits them, else the r, which may be 0, for which Q to the power r fit"
 unfoldable pub leaves : Reading → Reply
@@ -42,7 +42,7 @@ abbrev pub share : Task → ℕ → ℕ
 share t budget = smaller budget (arrivedIn (t .word) - t .done)
 
 abbrev pub onward : Task → ℕ → Task
-onward t n = record { q = t .q; m = t .m; word = t .word; done = t .done + n }
+onward t n = record { q = t .q; series = t .series; m = t .m; word = t .word; done = t .done + n }
 
 -- "Each call is lent the message slice; of another length it meets 5, brings in 0 and hands the job back as it came."
 abbrev pub refusal : Task → List ℕ → Result

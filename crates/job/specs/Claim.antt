@@ -9,7 +9,7 @@ use Rattle.field.specs.declared.outcome.Outcome.{Outcome}
 use Rattle.field.specs.declared.outcome.Outcome.the-variants.{Done}
 use Rattle.poly.specs.Messages.{Vector}
 use Rattle.poly.specs.Sets.{Exactly}
-use Rattle.points.specs.Points.{columnsOf}
+use Rattle.points.specs.Series.{columnsOf}
 use Rattle.code.specs.Terms.{size}
 use Rattle.code.specs.Word.{wordOf}
 use Rattle.code.specs.Recovered.{recovered}
@@ -50,12 +50,12 @@ pub record Repeats (t : Task) (o : Outcome) (message : List ℕ) (u : Result) : 
   pub same-reply : u .reply ≡ Finished o
   pub same-message : o ≡ Done → u .slice ≡ message
 
-module _ (q m : ℕ) (word : List ℕ) where
+module _ (q series m : ℕ) (word : List ℕ) where
   -- a message, k symbols, fits the n lowest arrived symbols: its word agrees at each arrived place that has fewer than n below it
   pub record FitsLowest (n : ℕ) (v : List ℕ) : Type 0 where
     pub symbols : Vector (q * q) (size q m) v
     pub agree : (p : ℕ) → p < length word → (getD word p 0 ≡ 255 → ⊥) → arrivedIn (take p word) < n
-        → getD (wordOf q (columnsOf q) m v) p 0 ≡ getD word p 0
+        → getD (wordOf q (columnsOf q series) m v) p 0 ≡ getD word p 0
 
   -- a call with a budget and a slice that was given the job t, which has d symbols brought in, and hands back u
   pub record Called (t : Task) (d budget : ℕ) (slice : List ℕ) (u : Result) : Type 0 where
@@ -85,15 +85,15 @@ module _ (q m : ℕ) (word : List ℕ) where
     -- "Once the job of an accepted opening is finished, .. the last call's result is what recovery in one go, lent a slice of that call's
     -- length, gives, however the budgets were chosen": here lent the same slice, so that what it then holds is told too
     pub ends : d + u .brought ≡ arrivedIn word
-        → Tells (u .reply) (recovered q m word slice .outcome) × (u .slice ≡ recovered q m word slice .slice)
+        → Tells (u .reply) (recovered q series m word slice .outcome) × (u .slice ≡ recovered q series m word slice .slice)
 
   abbrev pub start : Task
-  start = opened q m word .task
+  start = opened q series m word .task
 
   pub record Claim (calls : List Call) : Type 0 where
-    -- the job is still that of q, m and the word, and its count is "the numbers over all calls", never more than "the arrived symbols";
+    -- the job is still that of q, the series, m and the word, and its count is "the numbers over all calls", never more than "the arrived symbols";
     -- so once it is finished they "add up to the arrived symbols"
-    pub same : taskAfter start calls ≡ record { q = q; m = m; word = word; done = total start calls }
+    pub same : taskAfter start calls ≡ record { q = q; series = series; m = m; word = word; done = total start calls }
     pub within : total start calls ≤ arrivedIn word
     -- and so is the call after them, whatever it is
     pub next : (budget : ℕ) (slice : List ℕ)

@@ -1,4 +1,4 @@
--- What a job is of: q, m, a broken word, and how many of its symbols have been brought in. Nothing else that a job stores counts.
+-- What a job is of: q, the strap series, m, a broken word, and how many of its symbols have been brought in. Nothing else that a job stores counts.
 use mathlib.Core.List.{List}
 use Prim.Native.Nat.{ℕ, _*_}
 use lib.ListN.{take}
@@ -7,6 +7,7 @@ use Rattle.job.specs.Symbols.{arrivedIn}
 
 pub record Task : Type 0 where
   pub q : ℕ
+  pub series : ℕ
   pub m : ℕ
   pub word : List ℕ
   pub done : ℕ
@@ -16,4 +17,4 @@ abbrev pub storedWord : Job → List ℕ
 storedWord j = take (j .q * j .q * j .q) (j .places)
 
 abbrev pub taskOf : Job → Task
-taskOf j = record { q = j .q; m = j .m; word = storedWord j; done = arrivedIn (take (j .next) (storedWord j)) }
+taskOf j = record { q = j .q; series = j .series; m = j .m; word = storedWord j; done = arrivedIn (take (j .next) (storedWord j)) }

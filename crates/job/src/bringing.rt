@@ -6,7 +6,7 @@ ghost use lib.ListN.{length};
 ghost use Rattle.field.specs.Curve.{IsShort};
 ghost use Rattle.field.proofs.Fields.{fieldOf};
 ghost use Rattle.linear.specs.inner.Systems.{flat, rank, WellFormed, Full, Solves};
-ghost use Rattle.points.specs.Points.{columnsOf};
+ghost use Rattle.points.specs.Series.{columnsOf};
 ghost use Rattle.code.specs.Terms.{size};
 ghost use Rattle.code.specs.Word.{wordOf};
 ghost use Rattle.code.specs.inner.Grid.{entriesOf};
@@ -93,6 +93,7 @@ fn bring_equations(
 // The same, over all columns. The entries of the terms are worked out once for all places.
 fn collect(
     q: u8,
+    series: u8,
     m: usize,
     k: usize,
     word: &[u8],
@@ -100,15 +101,15 @@ fn collect(
     next: usize,
     work: &mut [u8],
 ) -> Progress
-    requires { ⌜ BrokenOver q (columnsOf q) m (now word) × (k ≡ size q m) × (size q m < 64) × (next ≤ length (now word)) × IsShort q ⌝ }
+    requires { ⌜ BrokenOver q (columnsOf q series) m (now word) × (k ≡ size q m) × (size q m < 64) × (next ≤ length (now word)) × IsShort q ⌝ }
     requires { ⌜ WellFormed (fieldOf q) 64 (size q m) (now work) ⌝ }
     ensures { λ r. ⌜ Counted (now (word .entry)) budget next 0 (r .next) (r .brought) ⌝ }
-    ensures { λ r. ⌜ Collects q (columnsOf q) m (now (word .entry)) budget (now (work .entry)) next
+    ensures { λ r. ⌜ Collects q (columnsOf q series) m (now (word .entry)) budget (now (work .entry)) next
         (rank (size q m) (flat 64 (size q m) (now (work .entry)))) (now (work .exit)) (r .next) (r .rank) (r .brought) (r .clash) ⌝ }
 {
     let mut entries = [0u16; 64];
     term::entries(q, m, &mut entries);
-    let columns = points::columns();
+    let columns = points::columns(q, series);
     let curve = Curve::at(q);
     let c = curve.symbols as usize;
     let rows = work::rank(k, work);
@@ -163,20 +164,29 @@ fn compare(word: &[u8], whole: &[u8], budget: u8, from: Progress) -> Progress
 }
 
 // The one message of a complete system, and its word.
-fn settle(q: u8, m: usize, k: usize, work: &[u8], candidate: &mut [u8], whole: &mut [u8])
+fn settle(
+    q: u8,
+    series: u8,
+    m: usize,
+    k: usize,
+    work: &[u8],
+    candidate: &mut [u8],
+    whole: &mut [u8],
+)
     requires { ⌜ IsShort q × (m < q * q * q) × (k ≡ size q m) × (length (now candidate) ≡ size q m) × (length (now whole) ≡ q * q * q) ⌝ }
     requires { ⌜ WellFormed (fieldOf q) 64 (size q m) (now work) × Full (size q m) (flat 64 (size q m) (now work)) ⌝ }
     ensures { λ _. ⌜ Solves (fieldOf q) (size q m) (flat 64 (size q m) (now (work .entry))) (now (candidate .exit)) ⌝ }
-    ensures { λ _. ⌜ now (whole .exit) ≡ wordOf q (columnsOf q) m (now (candidate .exit)) ⌝ }
+    ensures { λ _. ⌜ now (whole .exit) ≡ wordOf q (columnsOf q series) m (now (candidate .exit)) ⌝ }
 {
     system::solve(q, 64, k, work, candidate);
-    encoding::write_word(q, m, candidate, whole);
+    encoding::write_word(q, series, m, candidate, whole);
 }
 
 // Brings symbols in: by their equations until these are complete, then by the candidate's word; after a clash they are only
 // counted.
 pub fn bring(
     q: u8,
+    series: u8,
     m: usize,
     k: usize,
     word: &[u8],
@@ -188,10 +198,10 @@ pub fn bring(
     candidate: &mut [u8],
     whole: &mut [u8],
 ) -> Progress
-    requires { ⌜ IsShort q × (m < q * q * q) × BrokenOver q (columnsOf q) m (now word) × (k ≡ size q m) × (next ≤ length (now word)) ⌝ }
+    requires { ⌜ IsShort q × (m < q * q * q) × BrokenOver q (columnsOf q series) m (now word) × (k ≡ size q m) × (next ≤ length (now word)) ⌝ }
     requires { ⌜ (length (now candidate) ≡ size q m) × (length (now whole) ≡ length (now word))
         × Usable q m (now work) (now candidate) complete clash ⌝ }
-    ensures { λ r. ⌜ Brings q m (now (word .entry)) budget (now (work .entry)) (now (candidate .entry)) (now (whole .entry)) next complete clash
+    ensures { λ r. ⌜ Brings q series m (now (word .entry)) budget (now (work .entry)) (now (candidate .entry)) (now (whole .entry)) next complete clash
         (now (work .exit)) (now (candidate .exit)) (now (whole .exit)) r ⌝ }
 {
     if clash {
@@ -220,13 +230,13 @@ pub fn bring(
             },
         );
     }
-    let r = collect(q, m, k, word, budget, next, work);
+    let r = collect(q, series, m, k, word, budget, next, work);
     if r.clash {
         return compare(word, word, budget, r);
     }
     if r.rank < k {
         return r;
     }
-    settle(q, m, k, work, candidate, whole);
+    settle(q, series, m, k, work, candidate, whole);
     compare(word, whole, budget, r)
 }

@@ -32,7 +32,7 @@ pub enum Reply {
     Finished(Outcome),
 }
 
-// q, m, a broken word and how far it has been brought in: the places below `next`. While symbols are collected, `work` holds
+// q, the strap series, m, a broken word and how far it has been brought in: the places below `next`. While symbols are collected, `work` holds
 // their equations; once these are complete, `candidate` is the only message that they leave, and `whole` its word; a clash ends
 // both. Places from n on are never read.
 pub struct Job {
@@ -41,6 +41,7 @@ pub struct Job {
     pub candidate: [u8; 64],
     pub whole: [u8; 64],
     pub q: u8,
+    pub series: u8,
     pub m: u16,
     pub next: u16,
     pub complete: bool,
@@ -61,9 +62,9 @@ pub struct Turn {
 }
 
 // A job of a word, of which nothing has been brought in. Places after the word are missing.
-fn fresh(q: u8, m: u16, word: &[u8]) -> Job
+fn fresh(q: u8, series: u8, m: u16, word: &[u8]) -> Job
     requires { ⌜ length (now word) ≤ 64 ⌝ }
-    ensures { λ r. ⌜ Fresh q m (now (word .entry)) r ⌝ }
+    ensures { λ r. ⌜ Fresh q series m (now (word .entry)) r ⌝ }
 {
     let mut places = [255u8; 64];
     rows::copy(word.len(), word, &mut places);
@@ -73,6 +74,7 @@ fn fresh(q: u8, m: u16, word: &[u8]) -> Job
         candidate: [0; 64],
         whole: [0; 64],
         q,
+        series,
         m,
         next: 0,
         complete: false,
@@ -80,17 +82,17 @@ fn fresh(q: u8, m: u16, word: &[u8]) -> Job
     }
 }
 
-// From what recovery takes, without the slice: refusals 1 to 4.
-pub fn open(q: u8, m: u16, word: &[u8]) -> Opening
-    ensures { λ r. ⌜ opened q m (now (word .entry)) ≡ record { task = taskOf (r .job); outcome = r .outcome } ⌝ }
+// From what recovery takes, without the slice: refusals 1, 17 and 2 to 4.
+pub fn open(q: u8, series: u8, m: u16, word: &[u8]) -> Opening
+    ensures { λ r. ⌜ opened q series m (now (word .entry)) ≡ record { task = taskOf (r .job); outcome = r .outcome } ⌝ }
     ensures { λ r. ⌜ Sound (r .job) ⌝ }
 {
-    let outcome = testing::opening(q, m, word);
+    let outcome = testing::opening(q, series, m, word);
     if let Outcome::Done = outcome {
-        let job = fresh(q, m, word);
+        let job = fresh(q, series, m, word);
         Opening { job, outcome }
     } else {
-        let job = fresh(2, 0, &[]);
+        let job = fresh(2, 1, 0, &[]);
         Opening { job, outcome }
     }
 }
@@ -151,12 +153,14 @@ impl Job {
         let mut candidate = self.candidate;
         let mut whole = self.whole;
         let q = self.q;
+        let series = self.series;
         let m = self.m as usize;
         let next = self.next as usize;
         let complete = self.complete;
         let clash = self.clash;
         if testing::usable(
             q,
+            series,
             self.m,
             next,
             complete,
@@ -171,6 +175,7 @@ impl Job {
                 let n = curve.points;
                 let r = bringing::bring(
                     q,
+                    series,
                     m,
                     k,
                     &places[..n],

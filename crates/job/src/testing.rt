@@ -14,17 +14,26 @@ use code::term;
 use field::Curve;
 use field::Outcome;
 
-// Checks 1 to 4.
-pub fn opening(q: u8, m: u16, word: &[u8]) -> Outcome
-    ensures { λ r. ⌜ r ≡ openChecks q m (now (word .entry)) ⌝ }
+// Checks 1, 17 and 2 to 4.
+pub fn opening(q: u8, series: u8, m: u16, word: &[u8]) -> Outcome
+    ensures { λ r. ⌜ r ≡ openChecks q series m (now (word .entry)) ⌝ }
 {
     let order = m as usize;
     let taken = field::curve::is_short(q);
-    let first = check::order(taken, q, order);
+    let first = check::order(taken, q, series, order);
     let Outcome::Done = first else {
         return first;
     };
-    check::call(taken, true, true, q, order, word, term::size(q, order))
+    check::call(
+        taken,
+        true,
+        true,
+        q,
+        series,
+        order,
+        word,
+        term::size(q, order),
+    )
 }
 
 // Whether what a job holds besides its word may be read: nothing after a clash, a message once its rows are complete, else a
@@ -52,6 +61,7 @@ fn is_formed(
 // Whether a job of any bytes may be carried on.
 pub fn usable(
     q: u8,
+    series: u8,
     m: u16,
     next: usize,
     complete: bool,
@@ -61,14 +71,14 @@ pub fn usable(
     work: &[u8; 4096],
 ) -> bool
     requires { ⌜ (length (now places) ≡ 64) × (length (now candidate) ≡ 64) ⌝ }
-    ensures { λ r. ⌜ (r ≡ true) ↔ Tested q m (now (places .entry)) next (now (work .entry)) (now (candidate .entry)) complete clash ⌝ }
+    ensures { λ r. ⌜ (r ≡ true) ↔ Tested q series m (now (places .entry)) next (now (work .entry)) (now (candidate .entry)) complete clash ⌝ }
 {
     if !field::curve::is_short(q) {
         return false;
     }
     let curve = Curve::at(q);
     let n = curve.points;
-    let Outcome::Done = opening(q, m, &places[..n]) else {
+    let Outcome::Done = opening(q, series, m, &places[..n]) else {
         return false;
     };
     if n < next {

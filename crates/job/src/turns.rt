@@ -11,7 +11,7 @@ use field::Outcome;
 // The job after a call with each budget in turn.
 fn carry_through(mut job: Job, budgets: &[u8], message: &mut [u8]) -> Job
     requires { ⌜ Sound job ⌝ }
-    ensures { λ r. ⌜ Carries (job .q) (job .m) (storedWord job) (now (message .entry)) r (now (message .exit)) ⌝ }
+    ensures { λ r. ⌜ Carries (job .q) (job .series) (job .m) (storedWord job) (now (message .entry)) r (now (message .exit)) ⌝ }
 {
     let mut i = 0;
     while i < budgets.len() {
@@ -24,10 +24,17 @@ fn carry_through(mut job: Job, budgets: &[u8], message: &mut [u8]) -> Job
 
 // Opens a job, carries it on with each budget in turn and then with 255, which is more than can remain: it answers what recovery in
 // one go does, whatever the budgets.
-pub fn recover_in_turns(q: u8, m: u16, word: &[u8], budgets: &[u8], message: &mut [u8]) -> Outcome
-    ensures { λ r. ⌜ recovered q m (now (word .entry)) (now (message .entry)) ≡ answered r (now (message .exit)) ⌝ }
+pub fn recover_in_turns(
+    q: u8,
+    series: u8,
+    m: u16,
+    word: &[u8],
+    budgets: &[u8],
+    message: &mut [u8],
+) -> Outcome
+    ensures { λ r. ⌜ recovered q series m (now (word .entry)) (now (message .entry)) ≡ answered r (now (message .exit)) ⌝ }
 {
-    let opening = crate::open(q, m, word);
+    let opening = crate::open(q, series, m, word);
     let outcome = opening.outcome;
     if let Outcome::Done = outcome {
         let start = opening.job;

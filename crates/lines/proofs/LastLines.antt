@@ -34,9 +34,9 @@ module _ (block : List ℕ) (long : length block ≡ 64) where
   abbrev bad : ℕ
   bad = firstBad (badValue true 16) block
 
-  checked : (o : Outcome) → o ≡ sliceChecks true 16 64 block 32 32 Done → recoverChecks 4 37 block (replicate 32 0) ≡ o
+  checked : (o : Outcome) → o ≡ sliceChecks true 16 64 block 32 32 Done → recoverChecks 4 1 37 block (replicate 32 0) ≡ o
   checked o e =
-      sym (call-past true true true 4 37 block 32 o 64 32 (refl, omega arith) refl (sym (size-from-genus 4 (omega arith) 37 (omega arith))) e)
+      sym (call-past true true true 4 1 37 block 32 o 64 32 (refl, omega arith, refl) refl (sym (size-from-genus 4 (omega arith) 37 (omega arith))) e)
 
   pub bad-exactly : ((bad < 64) × (number (outcomeOf block) ≡ 4)) ⊎ ((64 ≤ bad) × Read (number (outcomeOf block)))
   bad-exactly =
@@ -44,10 +44,10 @@ module _ (block : List ℕ) (long : length block ≡ 64) where
         | yes h ↦
             let found = value-bad true 16 block bad refl (omega arith) in
             let refused = checked (BadValue bad) (sym (slices-value true 16 64 block 32 32 Done long (BadValue bad) found refl)) in
-            inl (h, ap (λ (a : Answer). number (a .outcome)) (recovered-refused 4 37 block (replicate 32 0) (BadValue bad) refused refl))
+            inl (h, ap (λ (a : Answer). number (a .outcome)) (recovered-refused 4 1 37 block (replicate 32 0) (BadValue bad) refused refl))
         | no h ↦
             let none = value-good true 16 block bad refl (omega arith) in
             let passed = checked Done (sym (slices-passed true 16 64 block 32 32 Done long Done none refl refl)) in
-            let says = sym (recovered-answer 4 37 block (replicate 32 0) passed) in
-            inr (omega arith, subst (λ (a : Answer). Read (number (a .outcome))) says (answer-read (readingOf 4 37 block) (replicate 32 0)))
+            let says = sym (recovered-answer 4 1 37 block (replicate 32 0) passed) in
+            inr (omega arith, subst (λ (a : Answer). Read (number (a .outcome))) says (answer-read (readingOf 4 1 37 block) (replicate 32 0)))
       ]

@@ -18,7 +18,7 @@ unfolding lineOf
 line-short n bytes h = rw (lt-ltb (length bytes) 64 h)
 
 module _ (n : ℕ) (bytes : List ℕ) (whole : 64 ≤ length bytes)
-    (o : Outcome) (slice : List ℕ) (says : recovered 4 37 bytes (replicate 32 0) ≡ answered o slice) where
+    (o : Outcome) (slice : List ℕ) (says : recovered 4 1 37 bytes (replicate 32 0) ≡ answered o slice) where
   pub line-ok : (r : ℕ) → r ≡ number o → r ≡ 0 → lineOf n bytes ≡ okLine n slice
   unfolding lineOf answerLine
   line-ok r e z = rw (le-ltb (length bytes) 64 whole, says, eq-eqb (number o) 0 (sym e ∙ z))

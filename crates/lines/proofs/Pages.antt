@@ -88,7 +88,7 @@ last-line-whole {at = at} {end = end} refusal r v h s n =
 -- the lines of the columns and the last one
 pub page-whole :
     (block : List ℕ) (o : Outcome) (slice : List ℕ) →
-    recovered 4 37 block (replicate 32 0) ≡ answered o slice →
+    recovered 4 1 37 block (replicate 32 0) ≡ answered o slice →
     (r s : ℕ) → r ≡ number o → s ≡ second o →
     joined (columnLine block) 16 ++ lastLine r s ≡ pageOf block
 unfolding pageOf

@@ -27,7 +27,7 @@ answerLine n answer =
 
 -- "each record as a broken word at q = 4, m = 37"; "a last part of 1 to 63 bytes"
 unfoldable pub lineOf : ℕ → List ℕ → List ℕ
-lineOf n bytes = cond (ltb (length bytes) 64) (shortLine n (length bytes)) (answerLine n (recovered 4 37 bytes (replicate 32 0)))
+lineOf n bytes = cond (ltb (length bytes) 64) (shortLine n (length bytes)) (answerLine n (recovered 4 1 37 bytes (replicate 32 0)))
 
 -- the line of record k of a file
 abbrev pub numberedLine : ℕ → List ℕ → ℕ → List ℕ

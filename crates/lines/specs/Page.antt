@@ -42,7 +42,7 @@ lastLine refusal r = resultText refusal r ++ (replicate (18 - length (resultText
 
 -- what recovery says of a record
 abbrev pub outcomeOf : List ℕ → Outcome
-outcomeOf block = recovered 4 37 block (replicate 32 0) .outcome
+outcomeOf block = recovered 4 1 37 block (replicate 32 0) .outcome
 
 -- "each record .. as 17 lines"
 unfoldable pub pageOf : List ℕ → List ℕ

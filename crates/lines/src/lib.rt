@@ -44,7 +44,7 @@ pub fn line(number: usize, block: &[u8], at: usize, out: &mut [u8]) -> usize
         return short_line(number, size, at, out);
     }
     let mut message = [0u8; 32];
-    let outcome = recovery::recover(4, 37, block, &mut message);
+    let outcome = recovery::recover(4, 1, 37, block, &mut message);
     let refusal = field::outcome::number(outcome);
     if refusal == 0 {
         ok_line(number, &message, at, out)

@@ -102,7 +102,7 @@ pub fn page(block: &[u8], at: usize, out: &mut [u8]) -> usize
 {
     let last = column_lines(block, at, out);
     let mut message = [0u8; 32];
-    let outcome = recovery::recover(4, 37, block, &mut message);
+    let outcome = recovery::recover(4, 1, 37, block, &mut message);
     let refusal = outcome::number(outcome);
     let second = outcome::second(outcome);
     last_line(refusal, second, last, out)

@@ -15,16 +15,17 @@ fn room(length: usize) -> usize
     if length < 560 { length } else { 560 }
 }
 
-fn run_on_slices(op: u8, q: u8, m: u16, input: &[u8], output: &mut [u8]) -> Outcome {
+fn run_on_slices(op: u8, q: u8, series: u8, m: u16, input: &[u8], output: &mut [u8]) -> Outcome {
     match op {
-        b'e' => code::encoding::encode(q, m, input, output),
-        b'u' => code::unencoding::unencode(q, m, input, output),
-        _ => recovery::recover(q, m, input, output),
+        b'e' => code::encoding::encode(q, series, m, input, output),
+        b'u' => code::unencoding::unencode(q, series, m, input, output),
+        b'C' => code::conversion::convert(q, series, input, output),
+        _ => recovery::recover(q, series, m, input, output),
     }
 }
 
-fn slice_answer(op: u8, q: u8, m: u16, input: &[u8], output: &mut [u8]) {
-    let outcome = run_on_slices(op, q, m, input, output);
+fn slice_answer(op: u8, q: u8, series: u8, m: u16, input: &[u8], output: &mut [u8]) {
+    let outcome = run_on_slices(op, q, series, m, input, output);
     print_answer(op, outcome);
     print_values(output, b'\n');
 }
@@ -73,8 +74,8 @@ fn print_work(outcome: Outcome, work: &[u8], byte: u8) {
     }
 }
 
-fn long_answer(m: u16, word: &[u8], message: &mut [u8], work: &mut [u8], byte: u8) {
-    let outcome = recovery::recover_long(m, word, message, work);
+fn long_answer(series: u8, m: u16, word: &[u8], message: &mut [u8], work: &mut [u8], byte: u8) {
+    let outcome = recovery::recover_long(series, m, word, message, work);
     print_answer(b'l', outcome);
     print_values(message, b' ');
     print_work(outcome, work, byte);
@@ -83,6 +84,11 @@ fn long_answer(m: u16, word: &[u8], message: &mut [u8], work: &mut [u8], byte: u
 // The order of a record.
 fn order(record: [u8; 1136]) -> u16 {
     number(record[2], record[3])
+}
+
+// The series of a record: its byte with the lowest bit flipped, so that 0 is series 1.
+fn series(record: [u8; 1136]) -> u8 {
+    record[10] ^ 1
 }
 
 // Where the input of a record ends.
@@ -106,6 +112,7 @@ fn slice_case(record: [u8; 1136]) {
     slice_answer(
         record[0],
         record[1],
+        series(record),
         order(record),
         &record[16..word_end],
         &mut lent[576..message_end],
@@ -120,6 +127,7 @@ fn long_case(record: [u8; 1136]) {
     let message_end = output_end(record);
     let work_end = work_length(record[8]);
     long_answer(
+        series(record),
         order(record),
         &record[16..word_end],
         &mut lent[576..message_end],

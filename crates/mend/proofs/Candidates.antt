@@ -13,7 +13,7 @@ use Rattle.field.specs.declared.outcome.Outcome.the-variants.{Done}
 use Rattle.field.proofs.Outcomes.{done-or-not}
 use Rattle.field.proofs.Curves.{short-curve}
 use Rattle.poly.specs.Messages.{Vector}
-use Rattle.points.specs.Points.{columnsOf}
+use Rattle.points.specs.Series.{columnsOf}
 use Rattle.code.specs.Terms.{size}
 use Rattle.code.specs.Word.{wordOf}
 use Rattle.code.specs.Answers.{Answer, answered}
@@ -31,37 +31,38 @@ use Rattle.mend.proofs.Menders.{codeword-near}
 message-of : (u v : List ℕ) → message u ≡ message v → u ≡ v
 message-of u v e = cc
 
-module _ (q m : ℕ) (word : List ℕ) (ok : Mendable q m word) where
+module _ (q series m : ℕ) (word : List ℕ) (ok : Mendable q series m word) where
   -- ---- what recovery answers of the broken word
 
-  module _ (f broken : List ℕ) (loc : Locator q m word f) (er : Erased q (reach q m) word f broken)
-      (slice : List ℕ) (o : Outcome) (got : List ℕ) (answer : answerOf (readingOf q m broken) slice ≡ answered o got) where
+  module _ (f broken : List ℕ) (loc : Locator q series m word f) (er : Erased q series (reach q m) word f broken)
+      (slice : List ℕ) (o : Outcome) (got : List ℕ) (answer : answerOf (readingOf q series m broken) slice ≡ answered o got) where
     -- a message
-    pub recovered-only : o ≡ Done → OnlyNear q m word got true
+    pub recovered-only : o ≡ Done → OnlyNear q series m word got true
     recovered-only d =
-        let read : readingOf q m broken ≡ message got =
-        answer-message (readingOf q m broken) slice got .0 (ap (λ (x : Answer). x .outcome) answer ∙ d, ap (λ (x : Answer). x .slice) answer) in (
-          read-vector q m word ok f broken loc er got read,
-          λ v h. message-of v got (sym (near-read q m word ok f broken loc er v h) ∙ read),
+        let read : readingOf q series m broken ≡ message got =
+        answer-message (readingOf q series m broken) slice got .0 (ap (λ (x : Answer). x .outcome) answer ∙ d, ap (λ (x : Answer). x .slice) answer) in (
+          read-vector q series m word ok f broken loc er got read,
+          λ v h. message-of v got (sym (near-read q series m word ok f broken loc er v h) ∙ read),
         )
 
     -- none
-    pub recovered-none : eqb (number o) 0 ≡ false → OnlyNear q m word got false
+    pub recovered-none : eqb (number o) 0 ≡ false → OnlyNear q series m word got false
     recovered-none n v h =
         done-or-not o
         (ap (λ (x : Answer). x .outcome) (sym answer)
-        ∙ answer-message (readingOf q m broken) slice v .1 (near-read q m word ok f broken loc er v h) .0) n
+        ∙ answer-message (readingOf q series m broken) slice v .1 (near-read q series m word ok f broken loc er v h) .0) n
 
   -- ---- what unencoding answers of the word
 
-  pub own-message : (slice got : List ℕ) → unencoded q m word slice ≡ answered Done got
-      → Vector (q * q) (size q m) got × (wordOf q (columnsOf q) m got ≡ word)
+  pub own-message : (slice got : List ℕ) → unencoded q series m word slice ≡ answered Done got
+      → Vector (q * q) (size q m) got × (wordOf q (columnsOf q series) m got ≡ word)
   own-message slice got e =
       let low : m < q * q * q = omega (arith, ok .order) in
-      let (h, again) = encode-unencode q m word slice got word e (ok .long) in (
+      let curve = short-curve q (ok .curve) in
+      let (h, again) = encode-unencode q series m word slice got word e (ok .long) in (
         h,
         ap (λ (x : Answer). x .slice)
-            (sym (encoded-word q m (short-curve q (ok .curve)) low got word (message-accepted q m (short-curve q (ok .curve)) low got word h (ok .long))) ∙ again),
+            (sym (encoded-word q series m curve (ok .named) low got word (message-accepted q series m curve (ok .named) low got word h (ok .long))) ∙ again),
       )
 
   -- the word can be unencoded
@@ -75,10 +76,11 @@ module _ (q m : ℕ) (word : List ℕ) (ok : Mendable q m word) where
 
   -- a codeword's message
   pub unencoded-only : (slice got : List ℕ) (o : Outcome) → length slice ≡ size q m
-      → readOver q (columnsOf q) m word slice ≡ answered o got → o ≡ Done
-      → OnlyNear q m word got true
+      → readOver q (columnsOf q series) m word slice ≡ answered o got → o ≡ Done
+      → OnlyNear q series m word got true
   unencoded-only slice got o l e d =
       let low : m < q * q * q = omega (arith, ok .order) in
       let (h, is) = own-message slice got
-      (unencoded-read q m (short-curve q (ok .curve)) low word slice (word-accepted slice l) ∙ e ∙ ap (λ (x : Outcome). answered x got) d) in
-      (h, λ v near. never-two q m word ok v got near (codeword-near q m word ok got h is))
+      (unencoded-read q series m (short-curve q (ok .curve)) (ok .named) low word slice (word-accepted slice l) ∙ e
+      ∙ ap (λ (x : Outcome). answered x got) d) in
+      (h, λ v near. never-two q series m word ok v got near (codeword-near q series m word ok got h is))

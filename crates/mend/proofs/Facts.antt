@@ -18,7 +18,7 @@ use Rattle.field.proofs.Curves.{short-curve}
 use Rattle.poly.specs.Lists.{oneIf, count, below}
 use Rattle.poly.proofs.Below.{of-mem-below}
 use Rattle.poly.proofs.Lists.{count-cong}
-use Rattle.points.specs.Points.{columnsOf}
+use Rattle.points.specs.Series.{columnsOf}
 use Rattle.code.specs.Answers.{Answer, answered as answered-as}
 use Rattle.code.specs.Unencoded.{unencoded}
 use Rattle.code.specs.Word.{wordOf}
@@ -59,10 +59,10 @@ marks-none a =
 -- ---- what is written
 
 -- an answer that isn't a refusal
-pub record Mends (q m : ℕ) (word : List ℕ) (a : Mending) : Type 0 where
+pub record Mends (q series m : ℕ) (word : List ℕ) (a : Mending) : Type 0 where
   -- "the codeword that differs in at most t places", by its message
-  pub near : Near q m word (a .message)
-  pub codeword : a .codeword ≡ wordOf q (columnsOf q) m (a .message)
+  pub near : Near q series m word (a .message)
+  pub codeword : a .codeword ≡ wordOf q (columnsOf q series) m (a .message)
   -- "n marks, 1 where a symbol was changed and 0 elsewhere"
   pub marks-long : length (a .marks) ≡ q * q * q
   pub changed : (p : ℕ) → p < q * q * q → (getD word p 0 ≡ getD (a .codeword) p 0 → ⊥) → getD (a .marks) p 0 ≡ 1
@@ -71,14 +71,14 @@ pub record Mends (q m : ℕ) (word : List ℕ) (a : Mending) : Type 0 where
   pub counted : a .count ≡ count (λ p. eqb (getD (a .marks) p 0) 1) (below (q * q * q))
   pub within : a .count ≤ radius q m
 
-module _ (q m : ℕ) (word message codeword marks : List ℕ) where
+module _ (q series m : ℕ) (word message codeword marks : List ℕ) where
   abbrev answer : Mending
-  answer = mended q m word message codeword marks
+  answer = mended q series m word message codeword marks
 
   abbrev wordFrom : List ℕ → List ℕ
-  wordFrom = wordOf q (columnsOf q) m
+  wordFrom = wordOf q (columnsOf q series) m
 
-  written-mends : length word ≡ q * q * q → (v : List ℕ) → Near q m word v → Mends q m word (written word wordFrom v)
+  written-mends : length word ≡ q * q * q → (v : List ℕ) → Near q series m word v → Mends q series m word (written word wordFrom v)
   written-mends long v h =
       record {
         near = h;
@@ -90,48 +90,48 @@ module _ (q m : ℕ) (word message codeword marks : List ℕ) where
         within = h .within;
       }
 
-  passed : answer .outcome ≡ Done → mendChecks q m word (length message) (length codeword) (length marks) ≡ Done
+  passed : answer .outcome ≡ Done → mendChecks q series m word (length message) (length codeword) (length marks) ≡ Done
   passed o = ⊎-elim (λ d. d) (λ n. absurd (done-or-not _ (sym (ap
-      (λ (a : Mending). a .outcome) (mended-refused q m word message codeword marks n)) ∙ o) n))
-      (done-or-refused (mendChecks q m word (length message) (length codeword) (length marks)))
+      (λ (a : Mending). a .outcome) (mended-refused q series m word message codeword marks n)) ∙ o) n))
+      (done-or-refused (mendChecks q series m word (length message) (length codeword) (length marks)))
 
   -- WHAT IS ANSWERED WITHOUT A REFUSAL
-  pub mends : answer .outcome ≡ Done → Mends q m word answer
-  mends o = go (nearest q m word) refl
+  pub mends : answer .outcome ≡ Done → Mends q series m word answer
+  mends o = go (nearest q series m word) refl
     where
-      e : mendChecks q m word (length message) (length codeword) (length marks) ≡ Done
+      e : mendChecks q series m word (length message) (length codeword) (length marks) ≡ Done
       e = passed o
 
-      go : (l : List (List ℕ)) → nearest q m word ≡ l → Mends q m word answer
+      go : (l : List (List ℕ)) → nearest q series m word ≡ l → Mends q series m word answer
       go [] is =
-          let none = mended-none q m word message codeword marks e (λ v h. not-nil (subst (Mem v) is (near-list q m word .whole v h))) in
+          let none = mended-none q series m word message codeword marks e (λ v h. not-nil (subst (Mem v) is (near-list q series m word .whole v h))) in
           let z : NoneNear ≡ Done = sym (ap (λ (a : Mending). a .outcome) none) ∙ o in absurd (omega (arith, ap number z))
       go (v ∷ rest) is =
-          let h : Near q m word v = near-list q m word .sound v (rw is (head refl)) in
-          subst (Mends q m word) (sym (mended-near q m word message codeword marks e v h))
-          (written-mends (checks-passed q m word _ _ _ e .mendable .long) v h)
+          let h : Near q series m word v = near-list q series m word .sound v (rw is (head refl)) in
+          subst (Mends q series m word) (sym (mended-near q series m word message codeword marks e v h))
+          (written-mends (checks-passed q series m word _ _ _ e .mendable .long) v h)
 
   -- ---- codewords
 
   -- a codeword passes, and nothing is changed
-  pub codeword-passes : mendChecks q m word (length message) (length codeword) (length marks) ≡ Done → (v : List ℕ)
-      → unencoded q m word message ≡ answered-as Done v → answer ≡ answered Done 0 v word (replicate (q * q * q) 0)
+  pub codeword-passes : mendChecks q series m word (length message) (length codeword) (length marks) ≡ Done → (v : List ℕ)
+      → unencoded q series m word message ≡ answered-as Done v → answer ≡ answered Done 0 v word (replicate (q * q * q) 0)
   codeword-passes e v u =
-      let ok = checks-passed q m word _ _ _ e .mendable in
-      let (h, is) = own-message q m word ok message v u in
-      mended-near q m word message codeword marks e v (codeword-near q m word ok v h is)
+      let ok = checks-passed q series m word _ _ _ e .mendable in
+      let (h, is) = own-message q series m word ok message v u in
+      mended-near q series m word message codeword marks e v (codeword-near q series m word ok v h is)
       ∙ ap (λ (x : List ℕ). answered Done (differing word x) v x (marksOf word x)) is
       ∙ ap (λ (n : ℕ). answered Done n v word (marksOf word word)) (differing-zero word word refl .1 refl)
       ∙ ap (λ (x : List ℕ). answered Done 0 v word x) (marks-none word ∙ ap (λ (n : ℕ). replicate n 0) (ok .long))
 
   -- "At t = 0 only codewords pass": what passes is unencoded to the same message
-  pub only-codewords : radius q m ≡ 0 → answer .outcome ≡ Done → unencoded q m word message ≡ answered-as Done (answer .message)
+  pub only-codewords : radius q m ≡ 0 → answer .outcome ≡ Done → unencoded q series m word message ≡ answered-as Done (answer .message)
   only-codewords z o =
-      let a = checks-passed q m word _ _ _ (passed o) in
+      let a = checks-passed q series m word _ _ _ (passed o) in
       let ok = a .mendable in
       let h = mends o in
       let is : wordFrom (answer .message) ≡ word =
-      differing-zero word (wordFrom (answer .message)) (word-long q m word ok (answer .message)) .0 (omega (arith, h .near .within)) in
-      let (first, second) = unencode-encode q m (short-curve q (ok .curve)) (omega (arith, ok .order)) (answer .message) word message (h .near .vector)
-      (ok .long) (a .message-long) in
-      ap (λ (x : List ℕ). unencoded q m x message) (sym (ap (λ (x : Answer). x .slice) first ∙ is)) ∙ second
+      differing-zero word (wordFrom (answer .message)) (word-long q series m word ok (answer .message)) .0 (omega (arith, h .near .within)) in
+      let (first, second) = unencode-encode q series m (short-curve q (ok .curve)) (ok .named) (omega (arith, ok .order)) (answer .message) word message
+      (h .near .vector) (ok .long) (a .message-long) in
+      ap (λ (x : List ℕ). unencoded q series m x message) (sym (ap (λ (x : Answer). x .slice) first ∙ is)) ∙ second

@@ -21,8 +21,9 @@ use Rattle.poly.proofs.Messages.{tabulate, getD-tabulate, vector-tabulate, vect
 use Rattle.poly.proofs.Values.{value-cong, value-sum, value-scale}
 use Rattle.poly.proofs.Interpolants.{at-column}
 use Rattle.poly.proofs.Interleaving.{place-lt}
-use Rattle.points.specs.Points.{ysOf, columnsOf}
-use Rattle.points.proofs.ColumnPoints.{full-columns, full-places, length-upTo}
+use Rattle.points.specs.Points.{ysOf}
+use Rattle.points.specs.Series.{columnsOf}
+use Rattle.points.proofs.Series.{full-columns, length-columns, full-places}
 use Rattle.code.specs.inner.Grid.{gather}
 use Rattle.code.specs.inner.Readable.{WordOver, gridValue, GridOf}
 use Rattle.code.specs.inner.Rows.{rowOf}
@@ -45,20 +46,21 @@ module _ (F : Field) where
       value-cong F n (λ e. F .times (g i e) (v i)) (λ e. F .times (v i) (g i e)) x (λ e b. F .times-comm (g i e) (v i))
       ∙ value-scale F n (v i) (g i) x ∙ F .times-comm (v i) (value F n (g i) x))
 
-module _ (q m : ℕ) (word : List ℕ) (ok : Mendable q m word) (s : ℕ) (below : m + s < q * q * q) (products grids : ℕ → List ℕ)
-    (made : TermProducts q s word products) (laid : (i : ℕ) → i < size q s → GridOf q (columnsOf q) (products i) (grids i)) (f : List ℕ) where
+module _ (q series m : ℕ) (word : List ℕ) (ok : Mendable q series m word) (s : ℕ) (below : m + s < q * q * q)
+    (products grids : ℕ → List ℕ) (made : TermProducts q series s word products)
+    (laid : (i : ℕ) → i < size q s → GridOf q (columnsOf q series) (products i) (grids i)) (f : List ℕ) where
   abbrev F : Field
   F = fieldOf q
 
   abbrev columns : List ℕ
-  columns = columnsOf q
+  columns = columnsOf q series
 
   abbrev full : q * length columns ≡ q * q * q
-  full = full-places q (short-curve q (ok .curve))
+  full = full-places q series (short-curve q (ok .curve))
 
   -- f times the word, and its grid
   timesWord : List ℕ
-  timesWord = tabulate (q * q * q) (λ p. F .times (symbolAt q s f p) (getD word p 0))
+  timesWord = tabulate (q * q * q) (λ p. F .times (symbolAt q series s f p) (getD word p 0))
 
   entryAt : ℕ → ℕ
   entryAt e = dot F (size q s) (λ i. getD (grids i) e 0) (entry f)
@@ -66,13 +68,13 @@ module _ (q m : ℕ) (word : List ℕ) (ok : Mendable q m word) (s : ℕ) (below
   gridOf : List ℕ
   gridOf = tabulate (q * length columns) entryAt
 
-  times-at : (p : ℕ) → p < q * q * q → getD timesWord p 0 ≡ F .times (symbolAt q s f p) (getD word p 0)
+  times-at : (p : ℕ) → p < q * q * q → getD timesWord p 0 ≡ F .times (symbolAt q series s f p) (getD word p 0)
   unfolding timesWord
-  times-at = getD-tabulate (q * q * q) (λ p. F .times (symbolAt q s f p) (getD word p 0))
+  times-at = getD-tabulate (q * q * q) (λ p. F .times (symbolAt q series s f p) (getD word p 0))
 
   vector-times : Vector (F .size) (q * q * q) timesWord
   unfolding timesWord
-  vector-times = vector-tabulate (F .size) (q * q * q) (λ p. F .times (symbolAt q s f p) (getD word p 0)) (λ p l. F .times-lt _ _)
+  vector-times = vector-tabulate (F .size) (q * q * q) (λ p. F .times (symbolAt q series s f p) (getD word p 0)) (λ p l. F .times-lt _ _)
 
   vector-grid : Vector (F .size) (q * length columns) gridOf
   unfolding gridOf entryAt
@@ -85,8 +87,8 @@ module _ (q m : ℕ) (word : List ℕ) (ok : Mendable q m word) (s : ℕ) (below
   over : WordOver q columns timesWord
   over =
       record {
-        over = full-columns q (short-curve q (ok .curve));
-        few = omega (arith, length-upTo (q * q));
+        over = full-columns q series (short-curve q (ok .curve));
+        few = omega (arith, length-columns q series (short-curve q (ok .curve)));
         long = vector-times .len ∙ sym full;
         symbols = vector-below (F .size) (q * q * q) timesWord (zero-lt F) vector-times;
       }
@@ -104,13 +106,14 @@ module _ (q m : ℕ) (word : List ℕ) (ok : Mendable q m word) (s : ℕ) (below
       ∙ value-dot F q (size q s) (λ i. at-column F q columns (grids i) t) (entry f) (getD (ysOf q (getD columns t 0)) y 0)
 
   scaled : (p : ℕ) → p < q * q * q
-      → dot F (size q s) (λ i. F .times (rowOf q columns s p i) (getD word p 0)) (entry f) ≡ F .times (symbolAt q s f p) (getD word p 0)
+      → dot F (size q s) (λ i. F .times (rowOf q columns s p i) (getD word p 0)) (entry f) ≡ F .times (symbolAt q series s f p) (getD word p 0)
   scaled p l =
       dot-cong F (size q s) (λ i. F .times (rowOf q columns s p i) (getD word p 0)) (λ i. F .times (getD word p 0) (rowOf q columns s p i)) (entry f)
       (λ i k. F .times-comm _ _)
       ∙ dot-scale-row F (size q s) (getD word p 0) (rowOf q columns s p) (entry f)
       ∙ F .times-comm _ _
-      ∙ ap (λ (x : ℕ). F .times x (getD word p 0)) (sym (word-dot q columns (full-columns q (short-curve q (ok .curve))) s f p (omega (arith, full))))
+      ∙ ap (λ (x : ℕ). F .times x (getD word p 0))
+      (sym (word-dot q columns (full-columns q series (short-curve q (ok .curve))) s f p (omega (arith, full))))
 
   laid-out : GridOf q columns timesWord gridOf
   laid-out =
@@ -133,14 +136,14 @@ module _ (q m : ℕ) (word : List ℕ) (ok : Mendable q m word) (s : ℕ) (below
   whole p e = omega (arith, over .symbols p, sizes q (short-curve q (ok .curve)) .size, sizes q (short-curve q (ok .curve)) .symbols)
 
   -- the product is that of a message exactly when the message has its word
-  of-fitting : (h : List ℕ) → Fitting (q * q) (size q (m + s)) (wordOf q columns (m + s)) timesWord h → Product q m s word f h
+  of-fitting : (h : List ℕ) → Fitting (q * q) (size q (m + s)) (wordOf q columns (m + s)) timesWord h → Product q series m s word f h
   of-fitting h k =
       record {
         vector = k .vector;
         is = λ p l. k .fits .at p (omega (arith, vector-times .len)) (whole p) ∙ times-at p l;
       }
 
-  to-fitting : (h : List ℕ) → Product q m s word f h → Fitting (q * q) (size q (m + s)) (wordOf q columns (m + s)) timesWord h
+  to-fitting : (h : List ℕ) → Product q series m s word f h → Fitting (q * q) (size q (m + s)) (wordOf q columns (m + s)) timesWord h
   to-fitting h k =
       record {
         vector = k .vector;
@@ -148,7 +151,7 @@ module _ (q m : ℕ) (word : List ℕ) (ok : Mendable q m word) (s : ℕ) (below
       }
 
   -- THE EQUATIONS
-  pub product-exactly : NoHeavy q m s grids (q * q * q) (entry f) ↔ ((h : List ℕ) × Product q m s word f h)
+  pub product-exactly : NoHeavy q m s grids (q * q * q) (entry f) ↔ ((h : List ℕ) × Product q series m s word f h)
   unfolding entryAt
   product-exactly = (
     λ zeros. (
@@ -168,17 +171,18 @@ module _ (q m : ℕ) (word : List ℕ) (ok : Mendable q m word) (s : ℕ) (below
 
 -- ---- the method's order s = t + g
 
-module _ (q m : ℕ) (word : List ℕ) (ok : Mendable q m word) (products grids : ℕ → List ℕ) (made : TermProducts q (reach q m) word products)
-    (laid : (i : ℕ) → i < size q (reach q m) → GridOf q (columnsOf q) (products i) (grids i)) where
+module _ (q series m : ℕ) (word : List ℕ) (ok : Mendable q series m word) (products grids : ℕ → List ℕ)
+    (made : TermProducts q series (reach q m) word products)
+    (laid : (i : ℕ) → i < size q (reach q m) → GridOf q (columnsOf q series) (products i) (grids i)) where
   low : m + reach q m < q * q * q
   low = omega arith
 
   -- a message other than 0 locates exactly when it meets the equations
   pub locator-of : (f : List ℕ) → Vector (q * q) (size q (reach q m)) f → (i : ℕ) → (getD f i 0 ≡ 0 → ⊥)
-      → NoHeavy q m (reach q m) grids (q * q * q) (entry f) → Locator q m word f
+      → NoHeavy q m (reach q m) grids (q * q * q) (entry f) → Locator q series m word f
   locator-of f h i d zeros =
-      let (g, is) = product-exactly q m word ok (reach q m) low products grids made laid f .0 zeros in
+      let (g, is) = product-exactly q series m word ok (reach q m) low products grids made laid f .0 zeros in
       record { vector = h; place = i; some = d; product = g; is = is }
 
-  pub of-locator : (f : List ℕ) → Locator q m word f → NoHeavy q m (reach q m) grids (q * q * q) (entry f)
-  of-locator f loc = product-exactly q m word ok (reach q m) low products grids made laid f .1 (loc .product, loc .is)
+  pub of-locator : (f : List ℕ) → Locator q series m word f → NoHeavy q m (reach q m) grids (q * q * q) (entry f)
+  of-locator f loc = product-exactly q series m word ok (reach q m) low products grids made laid f .1 (loc .product, loc .is)

@@ -26,9 +26,11 @@ use Rattle.poly.proofs.Interpolants.{at-column}
 use Rattle.poly.proofs.Interleaving.{place-lt}
 use Rattle.poly.proofs.Values.{value-cong, value-lt, value-plus, value-scale, value-trinomial, value-rotated}
 use Rattle.poly.proofs.Writes.{writes-in, below-writes}
-use Rattle.points.specs.Points.{ysOf, columnsOf}
+use Rattle.points.specs.Points.{ysOf}
+use Rattle.points.specs.Series.{columnsOf}
 use Rattle.points.specs.inner.Columns.{Columns, columnY}
-use Rattle.points.proofs.ColumnPoints.{length-ys, length-upTo, full-columns, full-places}
+use Rattle.points.proofs.ColumnPoints.{length-ys}
+use Rattle.points.proofs.Series.{full-columns, length-columns, full-places}
 use Rattle.points.proofs.Points.{of-mem-ys}
 use Rattle.points.proofs.Places.{quotient, remainder}
 use Rattle.code.specs.inner.Readable.{WordOver, gridValue, GridInFront}
@@ -264,11 +266,12 @@ pub entry-lt : (q : ℕ) → IsCurve q → (i j : ℕ) → i < q * q → j < q �
 entry-lt q curve i j a b = omega (arith, place-lt q i j (q * q) b a, sizes q curve .grid)
 
 -- a grid's rows are within sixteen numbers for each column
-pub full-word : (q : ℕ) → IsCurve q → (word : List ℕ) → length word ≡ q * q * q → Below (fieldOf q .size) word → WordOver q (columnsOf q) word
-full-word q curve word long symbols =
+pub full-word : (q series : ℕ) → IsCurve q → (word : List ℕ) → length word ≡ q * q * q → Below (fieldOf q .size) word
+    → WordOver q (columnsOf q series) word
+full-word q series curve word long symbols =
     record {
-      over = full-columns q curve;
-      few = omega (arith, length-upTo (q * q));
-      long = long ∙ sym (full-places q curve);
+      over = full-columns q series curve;
+      few = omega (arith, length-columns q series curve);
+      long = long ∙ sym (full-places q series curve);
       symbols = symbols;
     }

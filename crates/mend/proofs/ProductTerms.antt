@@ -23,8 +23,9 @@ use Rattle.poly.proofs.Messages.{tabulate, getD-tabulate, vector-below}
 use Rattle.poly.proofs.Parts.{length-part, part-at}
 use Rattle.poly.proofs.Values.{value-cong}
 use Rattle.linear.specs.inner.Systems.{flat, NonzeroSolved}
-use Rattle.points.specs.Points.{ysOf, columnsOf}
-use Rattle.points.proofs.ColumnPoints.{full-places}
+use Rattle.points.specs.Points.{ysOf}
+use Rattle.points.specs.Series.{columnsOf}
+use Rattle.points.proofs.Series.{full-places}
 use Rattle.points.proofs.Passing.{at-place}
 use Rattle.code.specs.Terms.{isTerm, xPower, yPower, weights, size}
 use Rattle.code.specs.inner.Readable.{gridValue, GridOf}
@@ -41,20 +42,20 @@ pub starts-taken : (q s count k : ℕ) (l : List ℕ) → k ≡ size q s → Sta
 starts-taken q s count k l is h = record { at = λ i b. getD-take k l i 0 (omega arith) ∙ h .at i b }
 
 -- the grids of the products of a word of n symbols with the x^i·y^j, and the starts of the terms of order s
-pub record Prepared (q s count n : ℕ) (word starts grids : List ℕ) : Type 0 where
+pub record Prepared (q series s count n : ℕ) (word starts grids : List ℕ) : Type 0 where
   pub curve : IsShort q
   pub powers : count ≡ s / q + 1
   pub places : n ≡ q * q * q
   pub fits : 64 * count * q ≤ length grids
   pub starts-at : Starts q s count starts
-  pub products : Products q (columnsOf q) word count grids q
+  pub products : Products q (columnsOf q series) word count grids q
 
-module _ (q s count n : ℕ) (word starts grids : List ℕ) (h : Prepared q s count n word starts grids) where
+module _ (q series s count n : ℕ) (word starts grids : List ℕ) (h : Prepared q series s count n word starts grids) where
   abbrev F : Field
   F = fieldOf q
 
   abbrev columns : List ℕ
-  columns = columnsOf q
+  columns = columnsOf q series
 
   short : n ≤ 64
   short = omega (arith, h .places, short-sizes q (h .curve) .points)
@@ -67,7 +68,7 @@ module _ (q s count n : ℕ) (word starts grids : List ℕ) (h : Prepared q s co
   unfolding productsOf
   products-at i = getD-tabulate (q * q * q) (λ p. F .times (rowOf q columns s p i) (getD word p 0))
 
-  pub term-products : TermProducts q s word productsOf
+  pub term-products : TermProducts q series s word productsOf
   term-products = record { at = λ i p a b. products-at i p b }
 
   -- the term i, with its exponents
@@ -131,7 +132,7 @@ module _ (q s count n : ℕ) (word starts grids : List ℕ) (h : Prepared q s co
     ]
 
     full : q * length columns ≡ n
-    full = full-places q (short-curve q (h .curve)) ∙ sym (h .places)
+    full = full-places q series (short-curve q (h .curve)) ∙ sym (h .places)
 
     same-value : (t r : ℕ) → t < length columns → r < q → gridValue q columns (gridFrom n starts grids i) t r ≡ gridValue q columns here t r
     same-value t r a b =
@@ -153,7 +154,7 @@ module _ (q s count n : ℕ) (word starts grids : List ℕ) (h : Prepared q s co
               same-value t r a b ∙ taken .is t r a b ∙ sym (products-at i (q * t + r) p);
         }
 
-module _ (q m : ℕ) (word : List ℕ) (ok : Mendable q m word) where
+module _ (q series m : ℕ) (word : List ℕ) (ok : Mendable q series m word) where
   pub word-symbols : Below (fieldOf q .size) word
   word-symbols =
       vector-below (fieldOf q .size) (q * q * q) word (zero-lt (fieldOf q))
@@ -163,26 +164,26 @@ module _ (q m : ℕ) (word : List ℕ) (ok : Mendable q m word) where
   heavy-low s is = omega (arith, ok .order, ok .long)
 
   -- what solves the equations of the heavy entries locates
-  at-reach : (count n : ℕ) (starts grids work f : List ℕ) (r : Bool) → Prepared q (reach q m) count n word starts grids
+  at-reach : (count n : ℕ) (starts grids work f : List ℕ) (r : Bool) → Prepared q series (reach q m) count n word starts grids
       → HoldsHeavy q m (reach q m) 32 (gridFrom n starts grids) work n → length f ≡ size q (reach q m)
-      → NonzeroSolved (fieldOf q) (size q (reach q m)) (flat 32 (size q (reach q m)) work) f r → Located q m word f r
+      → NonzeroSolved (fieldOf q) (size q (reach q m)) (flat 32 (size q (reach q m)) work) f r → Located q series m word f r
   at-reach count n starts grids work f true h held long solved =
-      solution-locates q m word ok (productsOf q (reach q m) count n word starts grids h) (gridFrom n starts grids)
-      (term-products q (reach q m) count n word starts grids h) (grid-of q (reach q m) count n word starts grids h) 32 work
+      solution-locates q series m word ok (productsOf q series (reach q m) count n word starts grids h) (gridFrom n starts grids)
+      (term-products q series (reach q m) count n word starts grids h) (grid-of q series (reach q m) count n word starts grids h) 32 work
       (subst (HoldsHeavy q m (reach q m) 32 (gridFrom n starts grids) work) (h .places) held)
       f (record { len = long; small = solved .0 .symbols }) (solved .0 .satisfies) (solved .1 .0) (λ z. omega (arith, z, solved .1 .2))
   at-reach count n starts grids work f false h held long solved =
-      full-no-locator q m word ok (productsOf q (reach q m) count n word starts grids h) (gridFrom n starts grids)
-      (term-products q (reach q m) count n word starts grids h) (grid-of q (reach q m) count n word starts grids h) 32 work
+      full-no-locator q series m word ok (productsOf q series (reach q m) count n word starts grids h) (gridFrom n starts grids)
+      (term-products q series (reach q m) count n word starts grids h) (grid-of q series (reach q m) count n word starts grids h) 32 work
       (subst (HoldsHeavy q m (reach q m) 32 (gridFrom n starts grids) work) (h .places) held)
       solved
 
-  pub located : (s count n k : ℕ) (starts grids work f : List ℕ) (r : Bool) → s ≡ reach q m → Prepared q s count n word starts grids
+  pub located : (s count n k : ℕ) (starts grids work f : List ℕ) (r : Bool) → s ≡ reach q m → Prepared q series s count n word starts grids
       → HoldsHeavy q m s 32 (gridFrom n starts grids) work n → k ≡ size q s → length f ≡ k
-      → NonzeroSolved (fieldOf q) k (flat 32 k work) f r → Located q m word f r
+      → NonzeroSolved (fieldOf q) k (flat 32 k work) f r → Located q series m word f r
   located s count n k starts grids work f r is-s h held is-k long solved =
       let is : k ≡ size q (reach q m) = is-k ∙ ap (size q) is-s in
       at-reach count n starts grids work f r
-      (subst (λ (s : ℕ). Prepared q s count n word starts grids) is-s h)
+      (subst (λ (s : ℕ). Prepared q series s count n word starts grids) is-s h)
       (subst (λ (s : ℕ). HoldsHeavy q m s 32 (gridFrom n starts grids) work n) is-s held)
       (long ∙ is) (subst (λ (k : ℕ). NonzeroSolved (fieldOf q) k (flat 32 k work) f r) is solved)

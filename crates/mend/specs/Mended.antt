@@ -11,7 +11,7 @@ use Rattle.field.specs.declared.outcome.Outcome.the-variants.{Done, BadRoom, No
 use Rattle.poly.specs.Lists.{oneIf, count, below, filter}
 use Rattle.poly.specs.Messages.{all}
 use Rattle.points.specs.Passing.{upTo}
-use Rattle.points.specs.Points.{columnsOf}
+use Rattle.points.specs.Series.{columnsOf}
 use Rattle.code.specs.Terms.{size}
 use Rattle.code.specs.Word.{wordOf}
 use Rattle.code.specs.Checks.{orderChecks, sliceChecks}
@@ -57,10 +57,10 @@ theNear word wordFrom refused [] = refused
 theNear word wordFrom refused (v ∷ rest) = written word wordFrom v
 
 -- "12: n − m − 1 is less than g, tested after 2; 5 here means k for the message, n for word and marks"; the lengths of these three are given
-unfoldable pub mendChecks : ℕ → ℕ → List ℕ → ℕ → ℕ → ℕ → Outcome
-mendChecks q m word message codeword marks =
+unfoldable pub mendChecks : ℕ → ℕ → ℕ → List ℕ → ℕ → ℕ → ℕ → Outcome
+mendChecks q series m word message codeword marks =
     let n = curveOf q .points in
-    orderChecks (isShort q) q m
+    orderChecks (isShort q) q series m
     (refuse (ltb (n - m - 1) (curveOf q .genus)) NoRadius
     (sliceChecks false (curveOf q .symbols) n word (size q m) message
     (refuse (not (eqb codeword n)) BadRoom
@@ -68,11 +68,11 @@ mendChecks q m word message codeword marks =
     Done))))
 
 -- "11: no codeword within t, tested last"; "the count of changes, 0 on a refusal", which leaves the slices as they were
-unfoldable pub mended : ℕ → ℕ → List ℕ → List ℕ → List ℕ → List ℕ → Mending
-mended q m word message codeword marks =
-    let checked = mendChecks q m word (length message) (length codeword) (length marks) in
+unfoldable pub mended : ℕ → ℕ → ℕ → List ℕ → List ℕ → List ℕ → List ℕ → Mending
+mended q series m word message codeword marks =
+    let checked = mendChecks q series m word (length message) (length codeword) (length marks) in
     let refused : Outcome → Mending = λ o. answered o 0 message codeword marks in
-    let wordFrom = wordOf q (columnsOf q) m in
+    let wordFrom = wordOf q (columnsOf q series) m in
     cond (eqb (number checked) 0)
     (theNear word wordFrom (refused NoneNear) (near (curveOf q .symbols) (size q m) wordFrom (radius q m) word))
     (refused checked)

@@ -27,16 +27,24 @@ fn erase(word: &[u8], located: &mut [u8])
 }
 
 // The message that alone fits the symbols where the locator isn't 0.
-fn read_rest(q: u8, m: u16, s: u16, word: &[u8], locator: &[u8], message: &mut [u8]) -> bool
-    requires { ⌜ Mendable q m (now word) × (s ≡ reach q m) × Locator q m (now word) (now locator) × (length (now message) ≡ size q m) ⌝ }
-    ensures { λ r. ⌜ OnlyNear q m (now (word .entry)) (now (message .exit)) r ⌝ }
+fn read_rest(
+    q: u8,
+    series: u8,
+    m: u16,
+    s: u16,
+    word: &[u8],
+    locator: &[u8],
+    message: &mut [u8],
+) -> bool
+    requires { ⌜ Mendable q series m (now word) × (s ≡ reach q m) × Locator q series m (now word) (now locator) × (length (now message) ≡ size q m) ⌝ }
+    ensures { λ r. ⌜ OnlyNear q series m (now (word .entry)) (now (message .exit)) r ⌝ }
 {
     let n = word.len();
     let mut located = [0u8; 64];
-    encoding::write_word(q, s as usize, locator, &mut located[..n]);
+    encoding::write_word(q, series, s as usize, locator, &mut located[..n]);
     erase(word, &mut located[..n]);
-    let mut grid = recovery::known_short_grid(q, &located[..n]);
-    let r = recovery::recover_over(q, m as usize, &located[..n], &mut grid, message);
+    let mut grid = recovery::known_short_grid(q, series, &located[..n]);
+    let r = recovery::recover_over(q, series, m as usize, &located[..n], &mut grid, message);
     let Outcome::Done = r else {
         return false;
     };
@@ -44,11 +52,11 @@ fn read_rest(q: u8, m: u16, s: u16, word: &[u8], locator: &[u8], message: &mut [
 }
 
 // A codeword's own message, and else what is read where a locator isn't 0.
-pub fn find(q: u8, m: u16, t: usize, word: &[u8], message: &mut [u8]) -> bool
-    requires { ⌜ Mendable q m (now word) × (t ≡ radius q m) × (length (now message) ≡ size q m) ⌝ }
-    ensures { λ r. ⌜ OnlyNear q m (now (word .entry)) (now (message .exit)) r ⌝ }
+pub fn find(q: u8, series: u8, m: u16, t: usize, word: &[u8], message: &mut [u8]) -> bool
+    requires { ⌜ Mendable q series m (now word) × (t ≡ radius q m) × (length (now message) ≡ size q m) ⌝ }
+    ensures { λ r. ⌜ OnlyNear q series m (now (word .entry)) (now (message .exit)) r ⌝ }
 {
-    let r = unencoding::read_word(q, m as usize, word, message);
+    let r = unencoding::read_word(q, series, m as usize, word, message);
     if let Outcome::Done = r {
         return true;
     }
@@ -56,8 +64,8 @@ pub fn find(q: u8, m: u16, t: usize, word: &[u8], message: &mut [u8]) -> bool
     let s = t + curve.genus;
     let k = term::size(q, s);
     let mut found = [0u8; 32];
-    if locator::find(q, m as usize, s, word, &mut found[..k]) {
-        return read_rest(q, m, s as u16, word, &found[..k], message);
+    if locator::find(q, series, m as usize, s, word, &mut found[..k]) {
+        return read_rest(q, series, m, s as u16, word, &found[..k], message);
     }
     false
 }

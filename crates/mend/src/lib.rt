@@ -25,18 +25,19 @@ pub struct Reply {
     pub count: u8,
 }
 
-// 1, 2, 12, 3, 4 and 5.
+// 1, 17, 2, 12, 3, 4 and 5.
 fn check_call(
     q: u8,
+    series: u8,
     m: usize,
     word: &[u8],
     message: usize,
     codeword: usize,
     marks: usize,
 ) -> Outcome
-    ensures { λ r. ⌜ r ≡ mendChecks q m (now (word .entry)) message codeword marks ⌝ }
+    ensures { λ r. ⌜ r ≡ mendChecks q series m (now (word .entry)) message codeword marks ⌝ }
 {
-    let first = check::order(field::curve::is_short(q), q, m);
+    let first = check::order(field::curve::is_short(q), q, series, m);
     let Outcome::Done = first else {
         return first;
     };
@@ -70,6 +71,7 @@ fn radius(q: u8, m: usize) -> usize
 // Writes the only candidate if its word is near.
 fn write_near(
     q: u8,
+    series: u8,
     m: u16,
     t: usize,
     word: &[u8],
@@ -78,14 +80,14 @@ fn write_near(
     codeword: &mut [u8],
     marks: &mut [u8],
 ) -> Reply
-    requires { ⌜ mendChecks q m (now word) (length (now message)) (length (now codeword)) (length (now marks)) ≡ Done ⌝ }
-    requires { ⌜ (t ≡ radius q m) × OnlyNear q m (now word) (now candidate) true ⌝ }
-    ensures { λ r. ⌜ mended q m (now (word .entry)) (now (message .entry)) (now (codeword .entry)) (now (marks .entry))
+    requires { ⌜ mendChecks q series m (now word) (length (now message)) (length (now codeword)) (length (now marks)) ≡ Done ⌝ }
+    requires { ⌜ (t ≡ radius q m) × OnlyNear q series m (now word) (now candidate) true ⌝ }
+    ensures { λ r. ⌜ mended q series m (now (word .entry)) (now (message .entry)) (now (codeword .entry)) (now (marks .entry))
         ≡ answered (r .outcome) (r .count) (now (message .exit)) (now (codeword .exit)) (now (marks .exit)) ⌝ }
 {
     let n = word.len();
     let mut near = [0u8; 64];
-    encoding::write_word(q, m as usize, candidate, &mut near[..n]);
+    encoding::write_word(q, series, m as usize, candidate, &mut near[..n]);
     let count = difference::count(word, &near[..n]);
     if t < count {
         return Reply {
@@ -105,21 +107,22 @@ fn write_near(
 // Mends a word that is past the checks.
 fn mend_word(
     q: u8,
+    series: u8,
     m: u16,
     word: &[u8],
     message: &mut [u8],
     codeword: &mut [u8],
     marks: &mut [u8],
 ) -> Reply
-    requires { ⌜ mendChecks q m (now word) (length (now message)) (length (now codeword)) (length (now marks)) ≡ Done ⌝ }
-    ensures { λ r. ⌜ mended q m (now (word .entry)) (now (message .entry)) (now (codeword .entry)) (now (marks .entry))
+    requires { ⌜ mendChecks q series m (now word) (length (now message)) (length (now codeword)) (length (now marks)) ≡ Done ⌝ }
+    ensures { λ r. ⌜ mended q series m (now (word .entry)) (now (message .entry)) (now (codeword .entry)) (now (marks .entry))
         ≡ answered (r .outcome) (r .count) (now (message .exit)) (now (codeword .exit)) (now (marks .exit)) ⌝ }
 {
     let t = radius(q, m as usize);
     let k = message.len();
     let mut only = [0u8; 64];
-    if candidate::find(q, m, t, word, &mut only[..k]) {
-        return write_near(q, m, t, word, &only[..k], message, codeword, marks);
+    if candidate::find(q, series, m, t, word, &mut only[..k]) {
+        return write_near(q, series, m, t, word, &only[..k], message, codeword, marks);
     }
     Reply {
         outcome: Outcome::NoneNear,
@@ -130,17 +133,19 @@ fn mend_word(
 // The message of the codeword near a word, that codeword, and marks where it differs from the word.
 pub fn mend(
     q: u8,
+    series: u8,
     m: u16,
     word: &[u8],
     message: &mut [u8],
     codeword: &mut [u8],
     marks: &mut [u8],
 ) -> Reply
-    ensures { λ r. ⌜ mended q m (now (word .entry)) (now (message .entry)) (now (codeword .entry)) (now (marks .entry))
+    ensures { λ r. ⌜ mended q series m (now (word .entry)) (now (message .entry)) (now (codeword .entry)) (now (marks .entry))
         ≡ answered (r .outcome) (r .count) (now (message .exit)) (now (codeword .exit)) (now (marks .exit)) ⌝ }
 {
     let checked = check_call(
         q,
+        series,
         m as usize,
         word,
         message.len(),
@@ -153,5 +158,5 @@ pub fn mend(
             count: 0,
         };
     };
-    mend_word(q, m, word, message, codeword, marks)
+    mend_word(q, series, m, word, message, codeword, marks)
 }

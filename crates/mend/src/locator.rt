@@ -69,16 +69,16 @@ fn bring_entries(q: u8, m: usize, s: usize, n: usize, starts: &[u16], grids: &[u
 }
 
 // A locator, if there is one.
-pub fn find(q: u8, m: usize, s: usize, word: &[u8], f: &mut [u8]) -> bool
-    requires { ⌜ Mendable q m (now word) × (s ≡ reach q m) × (length (now f) ≡ size q s) ⌝ }
-    ensures { λ r. ⌜ Located q m (now (word .entry)) (now (f .exit)) r ⌝ }
+pub fn find(q: u8, series: u8, m: usize, s: usize, word: &[u8], f: &mut [u8]) -> bool
+    requires { ⌜ Mendable q series m (now word) × (s ≡ reach q m) × (length (now f) ≡ size q s) ⌝ }
+    ensures { λ r. ⌜ Located q series m (now (word .entry)) (now (f .exit)) r ⌝ }
 {
     let n = word.len();
     let k = f.len();
     let d = term::divide(q, s);
     let count = d.whole + 1;
     let mut grids = [0u8; 2304];
-    product::write_products(q, count, word, &mut grids);
+    product::write_products(q, series, count, word, &mut grids);
     let mut starts = [0u16; 32];
     write_starts(q, s, count, &mut starts);
     let mut work = [0u8; 1024];

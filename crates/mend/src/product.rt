@@ -1,12 +1,12 @@
 // The products of a word with the terms x^i·y^j, as grids: entry e of a grid is the coefficient of x^(e / q)·y^(e % q).
 ghost use mathlib.Core.Path.{_≡_};
-ghost use Prim.Native.Nat.{_*_, _/_, _%_, _≤_, _<_};
+ghost use Prim.Native.Nat.{ℕ, _*_, _/_, _%_, _≤_, _<_};
 ghost use lib.ListN.{length, replicate};
 ghost use Rattle.field.specs.Curve.{IsShort};
 ghost use Rattle.field.proofs.Fields.{fieldOf};
 ghost use Rattle.poly.specs.inner.Linear.{entry};
 ghost use Rattle.poly.specs.inner.Ranges.{Below, writes};
-ghost use Rattle.points.specs.Points.{columnsOf};
+ghost use Rattle.points.specs.Series.{columnsOf};
 ghost use Rattle.mend.specs.inner.Products.{TimesX, top, turned, timesYAt, Multiples, Products};
 use code::term;
 use code::unencoding;
@@ -85,7 +85,7 @@ fn times_y(q: u8, n: usize, grid: &[u8]) -> [u8; 64]
 // The grids of x^0, x^1, .. times the polynomial of the first.
 fn write_multiples(q: u8, n: usize, count: usize, first: &[u8], out: &mut [u8])
     requires { ⌜ IsShort q × (n ≡ q * q * q) × (length (now first) ≡ 64) × Below (fieldOf q .size) (now first) × (length (now out) ≡ 64 * count) ⌝ }
-    ensures { λ _. ⌜ Multiples q (columnsOf q) (now (first .entry)) (now (out .exit)) count ⌝ }
+    ensures { λ _. ⌜ ((series : ℕ) → Multiples q (columnsOf q series) (now (first .entry)) (now (out .exit)) count) ⌝ }
 {
     let mut grid = [0u8; 64];
     rows::copy(64, first, &mut grid);
@@ -101,15 +101,15 @@ fn write_multiples(q: u8, n: usize, count: usize, first: &[u8], out: &mut [u8])
 }
 
 // The grids of x^i·y^j times the word, for each j below q and each i below count.
-pub fn write_products(q: u8, count: usize, word: &[u8], grids: &mut [u8])
+pub fn write_products(q: u8, series: u8, count: usize, word: &[u8], grids: &mut [u8])
     requires { ⌜ IsShort q × (length (now word) ≡ q * q * q) × Below (fieldOf q .size) (now word) ⌝ }
     requires { ⌜ 64 * count * q ≤ length (now grids) ⌝ }
-    ensures { λ _. ⌜ Products q (columnsOf q) (now (word .entry)) count (now (grids .exit)) q ⌝ }
+    ensures { λ _. ⌜ Products q (columnsOf q series) (now (word .entry)) count (now (grids .exit)) q ⌝ }
 {
     let n = word.len();
     let width = q as usize;
     let part = 64 * count;
-    let mut grid = unencoding::interpolate_short(q, word);
+    let mut grid = unencoding::interpolate_short(q, series, word);
     let mut j = 0;
     let mut at = 0;
     while j < width {

@@ -1,23 +1,34 @@
--- All columns of short blocks, as a function lends them: the first of the sixteen, as many as there are symbols.
+-- All columns of short blocks, as a function lends them: the first of sixteen, as many as there are symbols.
 -- Assumes nothing.
 use mathlib.Core.List.{List}
-use mathlib.Core.Path.{_≡_, sym, ap, _∙_}
+use mathlib.Core.Path.{_≡_, refl, sym, ap, _∙_}
 use Prim.Native.Nat.{ℕ, _*_, _≤_}
 use native.Mathlib.Omega.{arith}
 use lib.ListN.{length, take}
 use Rattle.field.specs.Curve.{IsShort}
-use Rattle.field.proofs.Curves.{short-sizes}
-use Rattle.points.specs.Passing.{upTo}
-use Rattle.points.specs.Points.{columnsOf}
-use Rattle.points.proofs.ColumnPoints.{length-upTo}
-use Rattle.points.proofs.YsTables.{columns-take}
+use Rattle.field.proofs.Curves.{short-curve, short-sizes}
+use Rattle.points.specs.Series.{columnsByPowers, columnsOf}
+use Rattle.points.specs.Passing.{passing, upTo}
+use Rattle.points.proofs.Series.{powers-4, by-powers-4, first-columns, second-columns, small-columns, length-columns}
 
-module _ (q : ℕ) (curve : IsShort q) (n : ℕ) (l : List ℕ) (is-n : n ≡ q * q) (is-l : l ≡ upTo 16) where
-  pub columns-are : take n l ≡ columnsOf q
-  columns-are = ap (λ (n : ℕ). take n l) is-n ∙ ap (take (q * q)) is-l ∙ columns-take q curve
+pub lent-small : (q series : ℕ) (l : List ℕ) → q ≡ 2 → l ≡ upTo 16 → (take (q * q) l ≡ columnsOf q series) × (length l ≡ 16)
+unfolding passing
+lent-small q series l e is = rw (e, is, small-columns series) (refl, refl)
+
+pub lent-second : (q series : ℕ) (l : List ℕ) → q ≡ 4 → series ≡ 2 → l ≡ columnsByPowers 4 → (take (q * q) l ≡ columnsOf q series) × (length l ≡ 16)
+unfolding powers-4
+lent-second q series l e second is = rw (e, is, second-columns 4 series second, by-powers-4) (refl, refl)
+
+pub lent-first : (q series : ℕ) (l : List ℕ) → q ≡ 4 → (series ≡ 2 → ⊥) → l ≡ upTo 16 → (take (q * q) l ≡ columnsOf q series) × (length l ≡ 16)
+unfolding passing
+lent-first q series l e first is = rw (e, is, first-columns 4 series first) (refl, refl)
+
+module _ (q series : ℕ) (curve : IsShort q) (n : ℕ) (l : List ℕ) (is-n : n ≡ q * q) (is-l : (take (q * q) l ≡ columnsOf q series) × (length l ≡ 16)) where
+  pub columns-are : take n l ≡ columnsOf q series
+  columns-are = ap (λ (n : ℕ). take n l) is-n ∙ is-l .0
 
   pub columns-fit : n ≤ length l
-  columns-fit = omega (arith, is-n, short-sizes q curve .symbols, ap length is-l, length-upTo 16)
+  columns-fit = omega (arith, is-n, short-sizes q curve .symbols, is-l .1)
 
   pub columns-long : n ≡ length (take n l)
-  columns-long = is-n ∙ sym (ap length columns-are ∙ length-upTo (q * q))
+  columns-long = is-n ∙ sym (ap length columns-are ∙ length-columns q series (short-curve q curve))

@@ -13,7 +13,7 @@ use Rattle.field.specs.Product.{times}
 use Rattle.field.proofs.Table.{agrees, entry}
 use Rattle.field.proofs.Curves.{each-curve, sizes}
 use Rattle.points.specs.Passing.{passing, upTo}
-use Rattle.points.specs.Points.{onCurve, ysOf, columnsOf}
+use Rattle.points.specs.Points.{onCurve, ysOf}
 use Rattle.points.specs.inner.Columns.{Columns}
 use Rattle.points.proofs.Passing.{place-true, passing-at, at-place, nodup-passing}
 use Rattle.points.proofs.Traces.{length-ys-8}
@@ -41,7 +41,7 @@ unfolding ysOf
 y-symbol q curve x t l b =
     rw (sizes q curve .size) (at-place (onCurve q x) (q * q) t (omega (arith, length-ys q curve x l)) .0)
 
--- ---- all columns
+-- ---- all columns, ascending
 
 pub length-upTo : (n : ℕ) → length (upTo n) ≡ n
 unfolding passing
@@ -51,13 +51,10 @@ length-upTo (suc n) = place-true (λ i. true) n refl ∙ ap suc (length-upTo n)
 pub up-to-at : (n p : ℕ) → p < n → getD (upTo n) p 0 ≡ p
 up-to-at n p l = ap (λ (i : ℕ). getD (upTo n) i 0) (sym (length-upTo p)) ∙ passing-at (λ i. true) n p refl l
 
-pub full-columns : (q : ℕ) → IsCurve q → Columns q (columnsOf q)
-full-columns q curve =
+pub ascending-columns : (q : ℕ) → IsCurve q → Columns q (upTo (q * q))
+ascending-columns q curve =
     record {
       curve = curve;
       small = λ t l. at-place (λ i. true) (q * q) t l .0;
       distinct = nodup-passing (λ i. true) (q * q);
     }
-
-pub full-places : (q : ℕ) → IsCurve q → q * length (columnsOf q) ≡ q * q * q
-full-places q curve = ap (λ (x : ℕ). q * x) (length-upTo (q * q)) ∙ sizes q curve .grid

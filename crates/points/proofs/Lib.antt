@@ -5,4 +5,5 @@ pub mod ColumnPoints
 pub mod Points
 pub mod YsTables
 pub mod PointTables
+pub mod Series
 pub mod AllColumns

@@ -1,24 +1,23 @@
 -- The table of the y of all columns: its rule from two computed tests. What it says of the points is `PointTables`.
 -- Assumes nothing.
 use mathlib.Core.List.{List}
-use mathlib.Core.Path.{_≡_, refl, sym, ap, ap₂, _∙_}
+use mathlib.Core.Path.{_≡_, sym, ap, ap₂, _∙_}
 use Prim.Native.Nat.{ℕ, _+_, _*_, _/_, _%_, _≤_, _<_}
 use native.Mathlib.Nat.{mul-suc, mul-le-mul-left}
 use native.Mathlib.Omega.{arith}
 use lib.Dec.{T}
-use lib.ListN.{length, getD, take}
+use lib.ListN.{length, getD}
 use lib.Seq.{ext-getD}
-use Rattle.field.specs.Curve.{IsCurve, IsShort}
+use Rattle.field.specs.Curve.{IsCurve}
 use Rattle.field.proofs.Fields.{fieldOf}
 use Rattle.field.proofs.FieldLaws.{zero-lt}
 use Rattle.field.proofs.Table.{agrees, entry, allBelow, below-entry}
-use Rattle.field.proofs.Curves.{each-short, sizes}
+use Rattle.field.proofs.Curves.{sizes}
 use Rattle.poly.specs.inner.Lanes.{lanes}
 use Rattle.poly.proofs.LaneLaws.{lanes-at, lanes-below}
 use Rattle.poly.specs.inner.Ranges.{Below, part}
 use Rattle.poly.proofs.Parts.{part-at, length-part}
 use Rattle.poly.proofs.Blocks.{block-fits}
-use Rattle.points.specs.Passing.{passing, upTo}
 use Rattle.points.specs.Points.{ysOf}
 use Rattle.points.specs.inner.Columns.{Ys, PaddedYs}
 use Rattle.points.proofs.Traces.{ys-8, fastY}
@@ -78,8 +77,3 @@ module _ (q x : ℕ) (all ys : List ℕ) (h : PaddedYs q all) (e : ys ≡ lanes 
   pub taken-at : IsCurve q → x < q * q → (s : ℕ) → s < q → getD ys s 0 ≡ getD (ysOf q x) s 0
   taken-at curve l s b =
       ap (λ (l : List ℕ). getD l s 0) e ∙ lanes-at (λ s. getD all (q * x + s) 0) s (omega (arith, sizes q curve .high)) ∙ h .at x s l b
-
--- the columns of each curve of short blocks begin those of the larger
-pub columns-take : (q : ℕ) → IsShort q → take (q * q) (upTo 16) ≡ upTo (q * q)
-unfolding passing
-columns-take = each-short (λ q. take (q * q) (upTo 16) ≡ upTo (q * q)) refl refl

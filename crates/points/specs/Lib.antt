@@ -1,4 +1,5 @@
 pub mod Passing
 pub mod Points
+pub mod Series
 pub mod PointTable
 pub mod inner

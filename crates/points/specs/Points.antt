@@ -7,7 +7,7 @@ use lib.Dec.{eqb}
 use Rattle.field.specs.Plus.{plus}
 use Rattle.field.specs.Power.{power}
 use Rattle.field.proofs.Fields.{fieldOf}
-use Rattle.points.specs.Passing.{passing, upTo}
+use Rattle.points.specs.Passing.{passing}
 
 abbrev pub onCurve : ℕ → ℕ → ℕ → Bool
 onCurve q x y = eqb (plus (power (fieldOf q) y q) y) (power (fieldOf q) x (suc q))
@@ -19,7 +19,3 @@ ysOf q x = passing (onCurve q x) (q * q)
 -- the points (x, y) of a list of columns x: column by column, y ascending
 unfoldable pub pointsOn : ℕ → List ℕ → List (ℕ × ℕ)
 pointsOn q columns = flatMap (λ x. map (λ y. (x, y)) (ysOf q x)) columns
-
--- all columns, ascending
-abbrev pub columnsOf : ℕ → List ℕ
-columnsOf q = upTo (q * q)

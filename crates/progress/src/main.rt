@@ -134,7 +134,7 @@ fn draw_refusal(number: usize, outcome: Outcome) {
 }
 
 fn show_record(number: usize, record: [u8; 64]) {
-    let opening = job::open(4, 37, &record);
+    let opening = job::open(4, 1, 37, &record);
     let outcome = opening.outcome;
     if let Outcome::Done = outcome {
         show(number, arrived_count(record), opening.job);

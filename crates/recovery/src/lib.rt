@@ -12,7 +12,7 @@ ghost use Rattle.poly.specs.inner.Ranges.{Below, writes};
 ghost use Rattle.poly.specs.inner.Linear.{entry};
 ghost use Rattle.linear.specs.inner.Combinations.{rowsFrom, Eliminated};
 ghost use Rattle.linear.specs.inner.Eliminating.{Table};
-ghost use Rattle.points.specs.Points.{columnsOf};
+ghost use Rattle.points.specs.Series.{columnsOf};
 ghost use Rattle.points.specs.inner.Columns.{Ys};
 ghost use Rattle.code.specs.Terms.{size};
 ghost use Rattle.code.specs.inner.Recovering.{BrokenOver};
@@ -46,24 +46,24 @@ pub fn fill(word: &[u8], out: &mut [u8])
 }
 
 // The grid of a short block's word with 0 at each gap, in the front of zeros.
-pub fn known_short_grid(q: u8, word: &[u8]) -> [u8; 64]
-    requires { ⌜ BrokenOver q (columnsOf q) 0 (now word) × IsShort q ⌝ }
-    ensures { λ r. ⌜ KnownGrid q (columnsOf q) (now (word .entry)) r × (length r ≡ 64) ⌝ }
+pub fn known_short_grid(q: u8, series: u8, word: &[u8]) -> [u8; 64]
+    requires { ⌜ BrokenOver q (columnsOf q series) 0 (now word) × IsShort q ⌝ }
+    ensures { λ r. ⌜ KnownGrid q (columnsOf q series) (now (word .entry)) r × (length r ≡ 64) ⌝ }
 {
     let n = word.len();
     let mut filled = [0u8; 64];
     fill(word, &mut filled[..n]);
-    unencoding::interpolate_short(q, &filled[..n])
+    unencoding::interpolate_short(q, series, &filled[..n])
 }
 
 // The same of a long block.
-fn known_long_grid(word: &[u8]) -> [u8; 512]
-    requires { ⌜ BrokenOver 8 (columnsOf 8) 0 (now word) ⌝ }
-    ensures { λ r. ⌜ KnownGrid 8 (columnsOf 8) (now (word .entry)) r × (length r ≡ 512) ⌝ }
+fn known_long_grid(series: u8, word: &[u8]) -> [u8; 512]
+    requires { ⌜ BrokenOver 8 (columnsOf 8 series) 0 (now word) ⌝ }
+    ensures { λ r. ⌜ KnownGrid 8 (columnsOf 8 series) (now (word .entry)) r × (length r ≡ 512) ⌝ }
 {
     let mut filled = [0u8; 512];
     fill(word, &mut filled);
-    unencoding::interpolate_long(&filled)
+    unencoding::interpolate_long(series, &filled)
 }
 
 // For each gap, by ascending place, the grid of the word that is 1 there and 0 elsewhere, each in the front of a row of zeros. Answers how
@@ -215,17 +215,18 @@ fn read_rest(q: u8, m: usize, count: usize, rank: usize, grid: &[u8], message: &
 // What the symbols of a short block's broken word say. The grid is that of the word with 0 at each gap.
 pub fn recover_over(
     q: u8,
+    series: u8,
     m: usize,
     word: &[u8],
     grid: &mut [u8; 64],
     message: &mut [u8],
 ) -> Outcome
-    requires { ⌜ BrokenOver q (columnsOf q) m (now word) × (length (now message) ≡ size q m) × IsShort q ⌝ }
-    requires { ⌜ KnownGrid q (columnsOf q) (now word) (now grid) × (length (now grid) ≡ 64) ⌝ }
-    ensures { λ r. ⌜ answerOf (reading (fieldOf q .size) (size q m) (wordOf q (columnsOf q) m) (now (word .entry))) (now (message .entry))
+    requires { ⌜ BrokenOver q (columnsOf q series) m (now word) × (length (now message) ≡ size q m) × IsShort q ⌝ }
+    requires { ⌜ KnownGrid q (columnsOf q series) (now word) (now grid) × (length (now grid) ≡ 64) ⌝ }
+    ensures { λ r. ⌜ answerOf (reading (fieldOf q .size) (size q m) (wordOf q (columnsOf q series) m) (now (word .entry))) (now (message .entry))
         ≡ answered r (now (message .exit)) ⌝ }
 {
-    let columns = points::columns();
+    let columns = points::columns(q, series);
     let width = q as usize;
     let c = width * width;
     let mut vectors = [0u8; 4096];
@@ -236,47 +237,53 @@ pub fn recover_over(
 }
 
 // What the symbols of a long block's broken word say. The gaps' vectors stand in the front of work.
-fn recover_long_over(m: usize, word: &[u8], message: &mut [u8], work: &mut [u8]) -> Outcome
-    requires { ⌜ BrokenOver 8 (columnsOf 8) m (now word) × (length (now message) ≡ size 8 m) × (length (now work) ≡ workLength) ⌝ }
-    ensures { λ r. ⌜ answerOf (reading (fieldOf 8 .size) (size 8 m) (wordOf 8 (columnsOf 8) m) (now (word .entry))) (now (message .entry))
+fn recover_long_over(
+    series: u8,
+    m: usize,
+    word: &[u8],
+    message: &mut [u8],
+    work: &mut [u8],
+) -> Outcome
+    requires { ⌜ BrokenOver 8 (columnsOf 8 series) m (now word) × (length (now message) ≡ size 8 m) × (length (now work) ≡ workLength) ⌝ }
+    ensures { λ r. ⌜ answerOf (reading (fieldOf 8 .size) (size 8 m) (wordOf 8 (columnsOf 8 series) m) (now (word .entry))) (now (message .entry))
         ≡ answered r (now (message .exit)) ⌝ }
 {
-    let columns = points::long_columns();
+    let columns = points::long_columns(series);
     rows::clear(work);
     let count = write_long_indicators(&columns, word, work);
-    let mut grid = known_long_grid(word);
+    let mut grid = known_long_grid(series, word);
     let end = 512 * count;
     let rank = eliminate_long(m, count, &mut work[..end], &mut grid);
     read_rest(8, m, count, rank, &grid, message)
 }
 
 // The message that alone fits a broken word, 255 standing for each missing symbol.
-pub fn recover(q: u8, m: u16, word: &[u8], message: &mut [u8]) -> Outcome
-    ensures { λ r. ⌜ recovered q m (now (word .entry)) (now (message .entry)) ≡ answered r (now (message .exit)) ⌝ }
+pub fn recover(q: u8, series: u8, m: u16, word: &[u8], message: &mut [u8]) -> Outcome
+    ensures { λ r. ⌜ recovered q series m (now (word .entry)) (now (message .entry)) ≡ answered r (now (message .exit)) ⌝ }
 {
     let order = m as usize;
     let taken = field::curve::is_short(q);
-    let checked = check::call(taken, true, true, q, order, word, message.len());
+    let checked = check::call(taken, true, true, q, series, order, word, message.len());
     let Outcome::Done = checked else {
         return checked;
     };
-    let mut grid = known_short_grid(q, word);
-    recover_over(q, order, word, &mut grid, message)
+    let mut grid = known_short_grid(q, series, word);
+    recover_over(q, series, order, word, &mut grid, message)
 }
 
 // The same of a long block. What work, 262,144 bytes, holds after a success and after refusals 9 and 10 is left open; any other refusal
 // leaves it as it was.
-pub fn recover_long(m: u16, word: &[u8], message: &mut [u8], work: &mut [u8]) -> Outcome
-    ensures { λ r. ⌜ recoveredLong m (now (word .entry)) (now (message .entry)) (length (now (work .entry))) ≡ answered r (now (message .exit)) ⌝ }
+pub fn recover_long(series: u8, m: u16, word: &[u8], message: &mut [u8], work: &mut [u8]) -> Outcome
+    ensures { λ r. ⌜ recoveredLong series m (now (word .entry)) (now (message .entry)) (length (now (work .entry))) ≡ answered r (now (message .exit)) ⌝ }
     ensures { λ r. ⌜ KeptUnlessWorked r (now (work .entry)) (now (work .exit)) ⌝ }
 {
     let order = m as usize;
-    let checked = check::call(true, true, true, 8, order, word, message.len());
+    let checked = check::call(true, true, true, 8, series, order, word, message.len());
     let Outcome::Done = checked else {
         return checked;
     };
     if work.len() != 262144 {
         return Outcome::BadWork;
     }
-    recover_long_over(order, word, message, work)
+    recover_long_over(series, order, word, message, work)
 }

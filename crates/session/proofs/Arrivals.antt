@@ -18,6 +18,7 @@ use Rattle.field.specs.declared.outcome.Outcome.the-variants.{Done, BadCurve, B
 use Rattle.field.proofs.Curves.{short-true, short-of-true, short-sizes}
 use Rattle.field.proofs.Outcomes.{passed, Follows, row-refused, row-passed}
 use Rattle.poly.proofs.Bools.{true-or-false}
+use Rattle.points.specs.Series.{isSeries}
 use Rattle.code.specs.Terms.{size}
 use Rattle.code.specs.Checks.{orderChecks, valueCheck, sliceChecks}
 use Rattle.code.specs.Answers.{answered}
@@ -35,16 +36,16 @@ use Rattle.session.specs.inner.WordRead.{wordRead}
 
 -- ---- opening
 
-pub opened-outcome : (q m : ℕ) → opened q m .outcome ≡ orderChecks (isShort q) q m Done
+pub opened-outcome : (q series m : ℕ) → opened q series m .outcome ≡ orderChecks (isShort q) q series m Done
 unfolding opened
-opened-outcome q m = refl
+opened-outcome q series m = refl
 
-module _ (q m : ℕ) (o : Outcome) (is : o ≡ orderChecks (isShort q) q m Done) where
-  pub opened-done : o ≡ Done → opened q m ≡ reply (emptySession q m) o
+module _ (q series m : ℕ) (o : Outcome) (is : o ≡ orderChecks (isShort q) q series m Done) where
+  pub opened-done : o ≡ Done → opened q series m ≡ reply (emptySession q series m) o
   unfolding opened
   opened-done e = rw (← is, e)
 
-  pub opened-refused : eqb (number o) 0 ≡ false → opened q m ≡ reply (emptySession 2 0) o
+  pub opened-refused : eqb (number o) 0 ≡ false → opened q series m ≡ reply (emptySession 2 1 0) o
   unfolding opened
   opened-refused e = rw (← is, e)
 
@@ -141,14 +142,15 @@ module _ (s : Session) (place symbol : ℕ) where
   abbrev past-two : Outcome
   past-two = values (last (s .q * s .q * s .q) (s .q * s .q))
 
-  pub checks-order : (o : Outcome) → o ≡ orderChecks (isShort (s .q)) (s .q) (s .m) Done → Refused o
+  pub checks-order : (o : Outcome) → o ≡ orderChecks (isShort (s .q)) (s .q) (s .series) (s .m) Done → Refused o
       → o ≡ arrivalChecks s place symbol
   unfolding arrivalChecks
-  checks-order o e r = order-refused (isShort (s .q)) (s .q) (s .m) o e r past-two
+  checks-order o e r = order-refused (isShort (s .q)) (s .q) (s .series) (s .m) o e r past-two
 
-  -- past 1 and 2: n and Q are the curve's, and o is what 4 came to
+  -- past 1, 17 and 2: n and Q are the curve's, and o is what 4 came to
   pub record ValuesChecked (n Q : ℕ) (o : Outcome) : Type 0 where
     pub is-block : IsShort (s .q)
+    pub is-series : isSeries (s .series) ≡ true
     pub is-n : n ≡ s .q * s .q * s .q
     pub is-Q : Q ≡ s .q * s .q
     pub order : s .m < n
@@ -158,7 +160,7 @@ module _ (s : Session) (place symbol : ℕ) where
     past-order : arrivalChecks s place symbol ≡ values (last n Q)
     unfolding arrivalChecks
     past-order =
-        order-passed (isShort (s .q)) (s .q) (s .m) past-two (short-true (s .q) (h .is-block)) (omega (arith, h .order, h .is-n))
+        order-passed (isShort (s .q)) (s .q) (s .series) (s .m) past-two (short-true (s .q) (h .is-block)) (h .is-series) (omega (arith, h .order, h .is-n))
         ∙ ap₂ (λ (a b : ℕ). values (last a b)) (sym (h .is-n)) (sym (h .is-Q))
 
     pub checks-value : Refused o → o ≡ arrivalChecks s place symbol
@@ -183,7 +185,7 @@ module _ (s : Session) (place symbol : ℕ) where
   checked-place e =
       let n = s .q * s .q * s .q in
       let Q = s .q * s .q in
-      let a = order-rest (isShort (s .q)) (s .q) (s .m) past-two e in
+      let a = order-rest (isShort (s .q)) (s .q) (s .series) (s .m) past-two e in
       let b = value-rest true Q (receivedWord s) (last n Q) (a .2) in
       let d = passed (leb n place) (refuse (leb Q symbol) BadSymbol Done) BadPlace (λ p. omega (arith, ap number p)) (b .1) in
       (short-of-true (s .q) (a .0), leb-false n place (d .0))
@@ -215,17 +217,17 @@ arrived-as-it-came s place symbol round e =
 -- ---- asking
 
 module _ (s : Session) (slice : List ℕ) where
-  refused-curve : isShort (s .q) ≡ false → (v : List ℕ) → recovered (s .q) (s .m) v slice ≡ answered BadCurve slice
+  refused-curve : isShort (s .q) ≡ false → (v : List ℕ) → recovered (s .q) (s .series) (s .m) v slice ≡ answered BadCurve slice
   refused-curve e v =
-      recovered-refused (s .q) (s .m) v slice BadCurve
-      (order-curve (isShort (s .q)) (s .q) (s .m) (sliceChecks true (s .q * s .q) (s .q * s .q * s .q) v (size (s .q) (s .m)) (length slice) Done) e) refl
+      recovered-refused (s .q) (s .series) (s .m) v slice BadCurve
+      (order-curve (isShort (s .q)) (s .q) (s .series) (s .m) (sliceChecks true (s .q * s .q) (s .q * s .q * s .q) v (size (s .q) (s .m)) (length slice) Done) e) refl
 
   -- recovery from the word that is read; where q names no curve of short blocks, whatever that is
   pub asked-recovered : length (s .places) ≡ 64 → (w : ReceivedWord) → w ≡ wordRead s
-      → asked s slice ≡ recovered (s .q) (s .m) (take (w .points) (w .places)) slice
+      → asked s slice ≡ recovered (s .q) (s .series) (s .m) (take (w .points) (w .places)) slice
   unfolding asked
   asked-recovered long w is = elim (true-or-false (isShort (s .q))) [
     | inl t ↦
-        ap (λ (v : List ℕ). recovered (s .q) (s .m) v slice) (sym (reads s long w is (short-of-true (s .q) t) .word))
+        ap (λ (v : List ℕ). recovered (s .q) (s .series) (s .m) v slice) (sym (reads s long w is (short-of-true (s .q) t) .word))
     | inr t ↦ refused-curve t (receivedWord s) ∙ sym (refused-curve t (take (w .points) (w .places)))
   ]

@@ -1,4 +1,4 @@
--- Asking a session that represents a model: recovery's checks 1 to 4 pass.
+-- Asking a session that represents a model: recovery's checks 1, 17 and 2 to 4 pass.
 -- Assumes nothing.
 use mathlib.Core.Bool.{true}
 use mathlib.Core.List.{List, map}
@@ -9,6 +9,7 @@ use Rattle.field.specs.Curve.{isShort, IsShort}
 use Rattle.field.specs.declared.outcome.Outcome.{Outcome}
 use Rattle.field.specs.declared.outcome.Outcome.the-variants.{Done, BadRoom}
 use Rattle.field.proofs.Curves.{short-true}
+use Rattle.points.specs.Series.{isSeries}
 use Rattle.code.specs.Terms.{size}
 use Rattle.code.specs.Checks.{valueCheck, sliceChecks}
 use Rattle.code.specs.Answers.{answered}
@@ -20,12 +21,12 @@ use Rattle.session.specs.Asked.{asked}
 use Rattle.session.specs.ReferenceModel.{Model}
 use Rattle.session.proofs.Steps.{receivedValue, values-pass, Represents, received-word}
 
-module _ (q m : ℕ) (block : IsShort q) (order : m < q * q * q)
+module _ (q series m : ℕ) (block : IsShort q) (named : isSeries series ≡ true) (order : m < q * q * q)
     (places rounds : List ℕ) (model : Model) (h : Represents q places rounds model) (slice : List ℕ) where
   abbrev now : Session
-  now = record { q = q; m = m; places = places; rounds = rounds }
+  now = record { q = q; series = series; m = m; places = places; rounds = rounds }
 
-  is-recovered : asked now slice ≡ recovered q m (map receivedValue model) slice
+  is-recovered : asked now slice ≡ recovered q series m (map receivedValue model) slice
   unfolding asked
   is-recovered = rw (received-word q block places rounds model h)
 
@@ -39,19 +40,19 @@ module _ (q m : ℕ) (block : IsShort q) (order : m < q * q * q)
   abbrev slices : Outcome
   slices = sliceChecks true (q * q) (q * q * q) (map receivedValue model) (size q m) (length slice) Done
 
-  checks : recoverChecks q m (map receivedValue model) slice ≡ slices
-  checks = order-passed (isShort q) q m slices (short-true q block) order
+  checks : recoverChecks q series m (map receivedValue model) slice ≡ slices
+  checks = order-passed (isShort q) q series m slices (short-true q block) named order
 
-  pub asks-answer : length slice ≡ size q m → asked now slice ≡ answerOf (readingOf q m (map receivedValue model)) slice
+  pub asks-answer : length slice ≡ size q m → asked now slice ≡ answerOf (readingOf q series m (map receivedValue model)) slice
   asks-answer e =
       is-recovered
-      ∙ recovered-answer q m (map receivedValue model) slice
+      ∙ recovered-answer q series m (map receivedValue model) slice
       (checks
       ∙ slices-passed true (q * q) (q * q * q) (map receivedValue model) (size q m) (length slice) Done long Done good refl e)
 
   pub asks-room : (length slice ≡ size q m → ⊥) → asked now slice ≡ answered BadRoom slice
   asks-room n =
       is-recovered
-      ∙ recovered-refused q m (map receivedValue model) slice BadRoom
+      ∙ recovered-refused q series m (map receivedValue model) slice BadRoom
       (checks
       ∙ slices-room true (q * q) (q * q * q) (map receivedValue model) (size q m) (length slice) Done long Done good refl n) refl

@@ -30,29 +30,29 @@ use Rattle.session.proofs.Arrivals.{reads}
 
 module _ (s : Session) where
   -- where q names no curve of short blocks, the word makes no difference
-  refused-curve : isShort (s .q) ≡ false → (v : List ℕ) → openChecks (s .q) (s .m) v ≡ BadCurve
+  refused-curve : isShort (s .q) ≡ false → (v : List ℕ) → openChecks (s .q) (s .series) (s .m) v ≡ BadCurve
   refused-curve e v =
-      order-curve (isShort (s .q)) (s .q) (s .m)
+      order-curve (isShort (s .q)) (s .q) (s .series) (s .m)
       (sliceChecks true (s .q * s .q) (s .q * s .q * s .q) v (size (s .q) (s .m)) (size (s .q) (s .m)) Done) e
 
   -- a job of the word that is read
-  pub job-opened : length (s .places) ≡ 64 → (w : ReceivedWord) → w ≡ wordRead s → jobOpened s ≡ opened (s .q) (s .m) (take (w .points) (w .places))
+  pub job-opened : length (s .places) ≡ 64 → (w : ReceivedWord) → w ≡ wordRead s → jobOpened s ≡ opened (s .q) (s .series) (s .m) (take (w .points) (w .places))
   unfolding jobOpened
   job-opened long w is = elim (true-or-false (isShort (s .q))) [
-    | inl t ↦ ap (opened (s .q) (s .m)) (sym (reads s long w is (short-of-true (s .q) t) .word))
+    | inl t ↦ ap (opened (s .q) (s .series) (s .m)) (sym (reads s long w is (short-of-true (s .q) t) .word))
     | inr t ↦
         let v = take (w .points) (w .places) in
-        opened-alike (s .q) (s .m) (receivedWord s) v BadCurve (refused-curve t (receivedWord s)) (refused-curve t v) refl
+        opened-alike (s .q) (s .series) (s .m) (receivedWord s) v BadCurve (refused-curve t (receivedWord s)) (refused-curve t v) refl
   ]
 
   -- "and meets refusals 1 to 4 as they do": where the opening is refused, so is asking, whatever slice is lent to it
   pub job-refused-alike : eqb (number (jobOpened s .outcome)) 0 ≡ false → (slice : List ℕ) → asked s slice ≡ answered (jobOpened s .outcome) slice
   unfolding jobOpened asked
   job-refused-alike e slice =
-      let o = opened-outcome (s .q) (s .m) (receivedWord s) in
-      refused-alike (s .q) (s .m) (receivedWord s) (rw o at e) slice ∙ ap (λ x. answered x slice) (sym o)
+      let o = opened-outcome (s .q) (s .series) (s .m) (receivedWord s) in
+      refused-alike (s .q) (s .series) (s .m) (receivedWord s) (rw o at e) slice ∙ ap (λ x. answered x slice) (sym o)
 
 -- every list of calls on a job opened from a session: the claim of `job`, whose `recovered` of the received word is what asking answers
-pub session-jobs : (s : Session) → Says (jobOpened s .outcome) 0 0 → (calls : List Call) → Claim (s .q) (s .m) (receivedWord s) calls
+pub session-jobs : (s : Session) → Says (jobOpened s .outcome) 0 0 → (calls : List Call) → Claim (s .q) (s .series) (s .m) (receivedWord s) calls
 unfolding jobOpened
-session-jobs s accepted calls = jobs (s .q) (s .m) (receivedWord s) accepted calls
+session-jobs s accepted calls = jobs (s .q) (s .series) (s .m) (receivedWord s) accepted calls

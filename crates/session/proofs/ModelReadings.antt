@@ -12,7 +12,7 @@ use Rattle.poly.specs.Sets.{ListOf, Alone, TwoOrMore, Exactly}
 use Rattle.poly.proofs.Lists.{getD-map}
 use Rattle.poly.proofs.Sets.{list-iff}
 use Rattle.linear.proofs.Elimination.{PowerOrNone}
-use Rattle.points.specs.Points.{columnsOf}
+use Rattle.points.specs.Series.{columnsOf}
 use Rattle.code.specs.Terms.{size}
 use Rattle.code.specs.Word.{wordOf}
 use Rattle.code.specs.Fitting.{fitting}
@@ -25,9 +25,9 @@ use Rattle.session.specs.Claim.{FitsModel}
 use Rattle.session.proofs.Steps.{receivedValue, Small}
 use Rattle.session.proofs.SymbolPlaces.{symbol-place-lt, symbolPlaces, length-symbol-places, of-mem-symbol-places, nodup-symbol-places}
 
-module _ (q m : ℕ) (curve : IsCurve q) (model : Model) (len : length model ≡ q * q * q) (small : Small (q * q) model) where
+module _ (q series m : ℕ) (curve : IsCurve q) (model : Model) (len : length model ≡ q * q * q) (small : Small (q * q) model) where
   abbrev word : List ℕ → List ℕ
-  word = wordOf q (columnsOf q) m
+  word = wordOf q (columnsOf q series) m
 
   abbrev broken : List ℕ
   broken = map receivedValue model
@@ -35,7 +35,7 @@ module _ (q m : ℕ) (curve : IsCurve q) (model : Model) (len : length model ≡
   at-place : (p : ℕ) → p < length model → (o : Place) → getD model p missing ≡ o → getD broken p 0 ≡ receivedValue o
   at-place p l o e = getD-map receivedValue model missing 0 p l ∙ ap receivedValue e
 
-  fits-iff : (v : List ℕ) → Fitting (q * q) (size q m) word broken v ↔ FitsModel q m model v
+  fits-iff : (v : List ℕ) → Fitting (q * q) (size q m) word broken v ↔ FitsModel q series m model v
   fits-iff v = (
     λ h. record {
       symbols = h .vector;
@@ -50,15 +50,15 @@ module _ (q m : ℕ) (curve : IsCurve q) (model : Model) (len : length model ≡
     },
   )
     where
-      go : FitsModel q m model v → (p : ℕ) → p < length model → (getD broken p 0 ≡ 255 → ⊥) → (o : Place) → getD model p missing ≡ o
+      go : FitsModel q series m model v → (p : ℕ) → p < length model → (getD broken p 0 ≡ 255 → ⊥) → (o : Place) → getD model p missing ≡ o
           → getD (word v) p 0 ≡ getD broken p 0
       go h p l n missing e = absurd (n (at-place p l missing e))
       go h p l n (conflict r) e = absurd (n (at-place p l (conflict r) e))
       go h p l n (symbol s r) e = h .agree p s r e ∙ sym (at-place p l (symbol s r) e)
 
-  fit-list : ListOf (FitsModel q m model) (fitting (q * q) (size q m) word broken)
+  fit-list : ListOf (FitsModel q series m model) (fitting (q * q) (size q m) word broken)
   fit-list =
-      list-iff (Fitting (q * q) (size q m) word broken) (FitsModel q m model) (fitting (q * q) (size q m) word broken) fits-iff
+      list-iff (Fitting (q * q) (size q m) word broken) (FitsModel q series m model) (fitting (q * q) (size q m) word broken) fits-iff
       (fitting-list (q * q) (size q m) word broken)
 
   is-broken : Broken q broken
@@ -70,28 +70,28 @@ module _ (q m : ℕ) (curve : IsCurve q) (model : Model) (len : length model ≡
       go p l (symbol s r) e = inr (rw (at-place p l (symbol s r) e) (small p s r e))
 
   powers : PowerOrNone (q * q) (length (fitting (q * q) (size q m) word broken))
-  powers = rw (length-fitting (q * q) (size q m) word broken) (facts q m curve .power broken is-broken)
+  powers = rw (length-fitting (q * q) (size q m) word broken) (facts q series m curve .power broken is-broken)
 
   -- so the reading says of the model what it should
-  pub none-fits : (readingOf q m broken ≡ nothing) ↔ ((v : List ℕ) → FitsModel q m model v → ⊥)
+  pub none-fits : (readingOf q series m broken ≡ nothing) ↔ ((v : List ℕ) → FitsModel q series m model v → ⊥)
   unfolding reading
-  none-fits = reads-nothing (q * q) (two-symbols q curve) (FitsModel q m model) (fitting (q * q) (size q m) word broken) fit-list
+  none-fits = reads-nothing (q * q) (two-symbols q curve) (FitsModel q series m model) (fitting (q * q) (size q m) word broken) fit-list
 
-  pub one-fits : (v : List ℕ) → (readingOf q m broken ≡ message v) ↔ Alone (FitsModel q m model) v
+  pub one-fits : (v : List ℕ) → (readingOf q series m broken ≡ message v) ↔ Alone (FitsModel q series m model) v
   unfolding reading
-  one-fits = reads-message (q * q) (two-symbols q curve) (FitsModel q m model) (fitting (q * q) (size q m) word broken) fit-list
+  one-fits = reads-message (q * q) (two-symbols q curve) (FitsModel q series m model) (fitting (q * q) (size q m) word broken) fit-list
 
   pub several-fit : (r : ℕ)
-      → (readingOf q m broken ≡ several r) ↔ (TwoOrMore (FitsModel q m model) × Exactly ((q * q) ^ r) (FitsModel q m model))
+      → (readingOf q series m broken ≡ several r) ↔ (TwoOrMore (FitsModel q series m model) × Exactly ((q * q) ^ r) (FitsModel q series m model))
   unfolding reading
   several-fit =
-      reads-several (q * q) (two-symbols q curve) (FitsModel q m model) (fitting (q * q) (size q m) word broken) fit-list powers
+      reads-several (q * q) (two-symbols q curve) (FitsModel q series m model) (fitting (q * q) (size q m) word broken) fit-list powers
 
   -- m + 1 places hold a symbol: no two messages fit
-  pub never-two : m + 1 ≤ symbolCount model → TwoOrMore (FitsModel q m model) → ⊥
+  pub never-two : m + 1 ≤ symbolCount model → TwoOrMore (FitsModel q series m model) → ⊥
   never-two enough two =
       two .different
-      (facts q m curve .agreement (two .one) (two .other) (two .one-has .symbols) (two .other-has .symbols)
+      (facts q series m curve .agreement (two .one) (two .other) (two .one-has .symbols) (two .other-has .symbols)
       (symbolPlaces 0 model) (nodup-symbol-places 0 model)
       (omega (arith, length-symbol-places 0 model))
       (λ p h.

@@ -219,11 +219,11 @@ same-copies : (n : ℕ) (f : Place → ℕ) (one other : List ℕ) (model then :
 same-copies n f one other model then a b e =
     copied n f one model a ∙ ap (λ (v : Model). map f v ++ drop n (replicate 64 (f missing))) e ∙ sym (copied n f other then b)
 
-pub same-session : (q m : ℕ) → Says (opened q m .outcome) 0 0 → (one other : List Event) → SameAccepted q one other
-    → sessionAfter q m one ≡ sessionAfter q m other
-same-session q m accepted one other h =
-    let a = match-after q m accepted one in
-    let b = match-after q m accepted other in
+pub same-session : (q series m : ℕ) → Says (opened q series m .outcome) 0 0 → (one other : List Event) → SameAccepted q one other
+    → sessionAfter q series m one ≡ sessionAfter q series m other
+same-session q series m accepted one other h =
+    let a = match-after q series m accepted one in
+    let b = match-after q series m accepted other in
     let e = same-model q one other h in
     let places : a .places ≡ b .places
     = same-copies (q * q * q) storedValue (a .places) (b .places) (modelAfter q one) (modelAfter q other)
@@ -231,4 +231,4 @@ same-session q m accepted one other h =
     let rounds : a .rounds ≡ b .rounds
     = same-copies (q * q * q) storedRound (a .rounds) (b .rounds) (modelAfter q one) (modelAfter q other)
     (a .represents .rounds-are) (b .represents .rounds-are) e in
-    a .is ∙ ap₂ (λ (l k : List ℕ). record { q = q; m = m; places = l; rounds = k }) places rounds ∙ sym (b .is)
+    a .is ∙ ap₂ (λ (l k : List ℕ). record { q = q; series = series; m = m; places = l; rounds = k }) places rounds ∙ sym (b .is)

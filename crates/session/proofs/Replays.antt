@@ -61,14 +61,14 @@ receive-end s places symbols rounds i h = rw (none (drop i places) (drop i symbo
     ends (inr (inr l)) = inr (inr (omega (arith, length-drop i rounds)))
 
 -- the reply to opening, and the session after the arrivals
-module _ (q m : ℕ) (places symbols rounds slice : List ℕ) (t : Reply) (is : t ≡ opened q m) where
+module _ (q series m : ℕ) (places symbols rounds slice : List ℕ) (t : Reply) (is : t ≡ opened q series m) where
   pub replayed-asked : t .outcome ≡ Done → (s : Session) → s ≡ sessionFrom (t .session) (arrivals places symbols rounds)
-      → replayed q m places symbols rounds slice ≡ asked s slice
+      → replayed q series m places symbols rounds slice ≡ asked s slice
   unfolding replayed
   replayed-asked e s f =
-      not-refused (opened q m .outcome) slice (asked (sessionAfter q m (arrivals places symbols rounds)) slice) (rw (← is) e) ∙ rw (f, is)
+      not-refused (opened q series m .outcome) slice (asked (sessionAfter q series m (arrivals places symbols rounds)) slice) (rw (← is) e) ∙ rw (f, is)
 
-  pub replayed-refused : eqb (number (t .outcome)) 0 ≡ false → replayed q m places symbols rounds slice ≡ answered (t .outcome) slice
+  pub replayed-refused : eqb (number (t .outcome)) 0 ≡ false → replayed q series m places symbols rounds slice ≡ answered (t .outcome) slice
   unfolding replayed
   replayed-refused =
-      refused (opened q m .outcome) (t .outcome) slice (asked (sessionAfter q m (arrivals places symbols rounds)) slice) (rw is)
+      refused (opened q series m .outcome) (t .outcome) slice (asked (sessionAfter q series m (arrivals places symbols rounds)) slice) (rw is)

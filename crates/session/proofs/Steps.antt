@@ -18,6 +18,7 @@ use Rattle.field.specs.declared.outcome.Outcome.{Outcome}
 use Rattle.field.specs.declared.outcome.Outcome.the-variants.{Done, BadPlace, BadSymbol}
 use Rattle.field.proofs.Curves.{short-sizes, short-of-true}
 use Rattle.poly.proofs.Lists.{getD-map, map-set}
+use Rattle.points.specs.Series.{isSeries}
 use Rattle.code.specs.Checks.{orderChecks, badValue, firstBad, valueCheck}
 use Rattle.code.proofs.Checks.{order-done, good-symbol, good-gap, value-good}
 use Rattle.session.specs.declared.Session.{Session}
@@ -171,27 +172,27 @@ pub received-word : (q : ℕ) → IsShort q → (places rounds : List ℕ) (mode
 received-word q block places rounds model h =
     ap (map conflictAsMissing) (h .places-are .same) ∙ received-model (q * q) (omega (arith, short-sizes q block .symbols)) model (h .small)
 
--- the session has the opening's q and m, and stores what the model holds
-pub record Match (q m : ℕ) (session : Session) (model : Model) : Type 0 where
+-- the session has the opening's q, series and m, and stores what the model holds
+pub record Match (q series m : ℕ) (session : Session) (model : Model) : Type 0 where
   pub places : List ℕ
   pub rounds : List ℕ
-  pub is : session ≡ record { q = q; m = m; places = places; rounds = rounds }
+  pub is : session ≡ record { q = q; series = series; m = m; places = places; rounds = rounds }
   pub represents : Represents q places rounds model
 
 -- what an accepted opening says of its arguments
-pub opened-block : (q m : ℕ) → opened q m .outcome ≡ Done → IsShort q × (m < q * q * q)
-opened-block q m e = let w = order-done (isShort q) q m (sym (opened-outcome q m) ∙ e) in (short-of-true q (w .0), w .1)
+pub opened-block : (q series m : ℕ) → opened q series m .outcome ≡ Done → IsShort q × (isSeries series ≡ true) × (m < q * q * q)
+opened-block q series m e = let w = order-done (isShort q) q series m (sym (opened-outcome q series m) ∙ e) in (short-of-true q (w .0), w .2, w .1)
 
 -- the session of an accepted opening matches the empty model
-pub match-opened : (q m : ℕ) → opened q m .outcome ≡ Done → Match q m (opened q m .session) (emptyModel q)
-match-opened q m e =
+pub match-opened : (q series m : ℕ) → opened q series m .outcome ≡ Done → Match q series m (opened q series m .session) (emptyModel q)
+match-opened q series m e =
     record {
       places = replicate 64 255;
       rounds = replicate 64 0;
-      is = ap (λ (t : Reply). t .session) (opened-done q m (orderChecks (isShort q) q m Done) refl (sym (opened-outcome q m) ∙ e));
+      is = ap (λ (t : Reply). t .session) (opened-done q series m (orderChecks (isShort q) q series m Done) refl (sym (opened-outcome q series m) ∙ e));
       represents = record {
-        places-are = copies-empty (q * q * q) storedValue (short-sizes q (opened-block q m e .0) .points);
-        rounds-are = copies-empty (q * q * q) storedRound (short-sizes q (opened-block q m e .0) .points);
+        places-are = copies-empty (q * q * q) storedValue (short-sizes q (opened-block q series m e .0) .points);
+        rounds-are = copies-empty (q * q * q) storedRound (short-sizes q (opened-block q series m e .0) .points);
         len = length-replicate (q * q * q) missing;
         small = λ p s r h. absurd (empty-no-symbol (q * q * q) p s r h);
       };
@@ -200,9 +201,9 @@ match-opened q m e =
 -- ---- an arrival
 
 -- it is answered Done exactly when the model accepts it, and the session it hands back matches the model after it
-pub record Step (q m : ℕ) (session : Session) (model : Model) (p s r : ℕ) : Type 0 where
+pub record Step (q series m : ℕ) (session : Session) (model : Model) (p s r : ℕ) : Type 0 where
   pub answered : (arrived session p s r .outcome ≡ Done) ↔ T (accepts q model p s r)
-  pub next : Match q m (arrived session p s r .session) (afterArrival q model p s r)
+  pub next : Match q series m (arrived session p s r .session) (afterArrival q model p s r)
 
 module _ (q : ℕ) (model : Model) (p s r : ℕ) where
   accepts-is : accepts q model p s r ≡ inRange q p s
@@ -217,19 +218,20 @@ module _ (q : ℕ) (model : Model) (p s r : ℕ) where
   unfolding afterArrival
   after-in-range e = rw e
 
-module _ (q m : ℕ) (block : IsShort q) (order : m < q * q * q)
+module _ (q series m : ℕ) (block : IsShort q) (named : isSeries series ≡ true) (order : m < q * q * q)
     (places rounds : List ℕ) (model : Model) (h : Represents q places rounds model) (p s r : ℕ) where
   abbrev now : Session
-  now = record { q = q; m = m; places = places; rounds = rounds }
+  now = record { q = q; series = series; m = m; places = places; rounds = rounds }
 
-  matches : Match q m now model
+  matches : Match q series m now model
   matches = record { places = places; rounds = rounds; is = refl; represents = h }
 
-  -- the checks 1, 2 and 4 pass
+  -- the checks 1, 17, 2 and 4 pass
   checked : ValuesChecked now p s (q * q * q) (q * q) Done
   checked =
       record {
         is-block = block;
+        is-series = named;
         is-n = refl;
         is-Q = refl;
         order = order;
@@ -238,16 +240,16 @@ module _ (q m : ℕ) (block : IsShort q) (order : m < q * q * q)
 
   -- by the reply and the model after it
   step-is : (t : Reply) (then : Model) → arrived now p s r ≡ t → afterArrival q model p s r ≡ then → ((t .outcome ≡ Done) ↔ T (accepts q model p s r))
-      → Match q m (t .session) then → Step q m now model p s r
+      → Match q series m (t .session) then → Step q series m now model p s r
   step-is t then e f a n = record { answered = rw e a; next = rw (e, f) n }
 
   refused-step : (o : Outcome) → arrivalChecks now p s ≡ o → eqb (number o) 0 ≡ false → (o ≡ Done → ⊥) → inRange q p s ≡ false
-      → Step q m now model p s r
+      → Step q series m now model p s r
   refused-step o e n d w =
       step-is (reply now o) model (arrived-refused now p s r o e n) (after-out-of-range q model p s r w)
       (rw (accepts-is q model p s r, w) (λ f. d f, λ t. absurd t)) matches
 
-  accepted-step : p < q * q * q → s < q * q → Step q m now model p s r
+  accepted-step : p < q * q * q → s < q * q → Step q series m now model p s r
   accepted-step l k =
       let o : Place = getD model p missing in
       let then : Place = updated o s r in
@@ -274,10 +276,10 @@ module _ (q m : ℕ) (block : IsShort q) (order : m < q * q * q)
         };
       })
 
-  now-step : Step q m now model p s r
+  now-step : Step q series m now model p s r
   now-step = go (decLt p (q * q * q)) (decLt s (q * q))
     where
-      go : Dec (p < q * q * q) → Dec (s < q * q) → Step q m now model p s r
+      go : Dec (p < q * q * q) → Dec (s < q * q) → Step q series m now model p s r
       go (yes l) (yes k) = accepted-step l k
       go (yes l) (no k) =
           refused-step BadSymbol (checks-symbol now p s _ _ _ checked refl l (omega arith)) refl (λ e. omega (arith, ap number e))
@@ -286,6 +288,6 @@ module _ (q m : ℕ) (block : IsShort q) (order : m < q * q * q)
           refused-step BadPlace (checks-place now p s _ _ _ checked refl (omega arith)) refl (λ e. omega (arith, ap number e))
           (rw (le-ltb p (q * q * q) (omega arith)))
 
-pub step : (q m : ℕ) → IsShort q → m < q * q * q → (session : Session) (model : Model) → Match q m session model → (p s r : ℕ)
-    → Step q m session model p s r
-step q m block order session model h p s r = rw (h .is) (now-step q m block order (h .places) (h .rounds) model (h .represents) p s r)
+pub step : (q series m : ℕ) → IsShort q → isSeries series ≡ true → m < q * q * q → (session : Session) (model : Model) → Match q series m session model → (p s r : ℕ)
+    → Step q series m session model p s r
+step q series m block named order session model h p s r = rw (h .is) (now-step q series m block named order (h .places) (h .rounds) model (h .represents) p s r)

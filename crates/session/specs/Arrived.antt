@@ -45,11 +45,11 @@ merged old oldRound symbol round =
     (cond (ltb round oldRound) unchanged
     (cond (eqb old symbol) unchanged conflict)))
 
--- "An arrival takes 1, 2, 4 (stored values), 6, 7 and 8." T-01: 254, "which stored values may now hold", passes 4, and "Refusal 8 no longer
+-- "An arrival takes 1, 2, 4 (stored values), 6, 7 and 8", and 17, "the stored one too in arrivals", after 1 (T-11). T-01: 254, "which stored values may now hold", passes 4, and "Refusal 8 no longer
 -- occurs".
 unfoldable pub arrivalChecks : Session → ℕ → ℕ → Outcome
 arrivalChecks s place symbol =
-    orderChecks (isShort (s .q)) (s .q) (s .m)
+    orderChecks (isShort (s .q)) (s .q) (s .series) (s .m)
     (valueCheck true (s .q * s .q) (receivedWord s)
     (refuse (leb (s .q * s .q * s .q) place) BadPlace
     (refuse (leb (s .q * s .q) symbol) BadSymbol
@@ -61,7 +61,7 @@ reply s o = record { session = s; outcome = o }
 -- the session with what is then stored for a place
 abbrev pub withStored : Session → ℕ → Stored → Session
 withStored s place then =
-    record { q = s .q; m = s .m; places = set (s .places) place (then .value); rounds = set (s .rounds) place (then .round) }
+    record { q = s .q; series = s .series; m = s .m; places = set (s .places) place (then .value); rounds = set (s .rounds) place (then .round) }
 
 -- "An arrival hands the session back with one symbol stored, or as it came."
 unfoldable pub arrived : Session → ℕ → ℕ → ℕ → Reply

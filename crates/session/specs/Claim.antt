@@ -8,7 +8,7 @@ use lib.ListN.{length, getD}
 use Rattle.field.specs.Outcomes.{Says}
 use Rattle.poly.specs.Messages.{Vector}
 use Rattle.poly.specs.Sets.{Alone, TwoOrMore, Exactly}
-use Rattle.points.specs.Points.{columnsOf}
+use Rattle.points.specs.Series.{columnsOf}
 use Rattle.code.specs.Terms.{size}
 use Rattle.code.specs.Word.{wordOf}
 use Rattle.code.specs.Answers.{Answer}
@@ -39,27 +39,28 @@ sessionFrom session [] = session
 sessionFrom session (Arrival p s r ∷ rest) = sessionFrom (arrived session p s r .session) rest
 sessionFrom session (Asking slice ∷ rest) = sessionFrom session rest
 
-abbrev pub sessionAfter : (q m : ℕ) → List Event → Session
-sessionAfter q m events = sessionFrom (opened q m .session) events
+abbrev pub sessionAfter : (q series m : ℕ) → List Event → Session
+sessionAfter q series m events = sessionFrom (opened q series m .session) events
 
-module _ (q m : ℕ) where
+-- of a session that was opened with q, a series and m: "demand 3 takes places and words in it" (T-11)
+module _ (q series m : ℕ) where
   -- "A message is k symbols." "A message fits the slate if its word has the slate's symbol at every place of the slate that holds one."
   -- A place in conflict holds none: it "counts as missing" (T-01).
   pub record FitsModel (model : Model) (v : List ℕ) : Type 0 where
     pub symbols : Vector (q * q) (size q m) v
-    pub agree : (p s r : ℕ) → getD model p missing ≡ symbol s r → getD (wordOf q (columnsOf q) m v) p 0 ≡ s
+    pub agree : (p s r : ℕ) → getD model p missing ≡ symbol s r → getD (wordOf q (columnsOf q series) m v) p 0 ≡ s
 
   -- what asking answers after the events
   abbrev pub answer : List Event → List ℕ → Answer
-  answer events slice = asked (sessionAfter q m events) slice
+  answer events slice = asked (sessionAfter q series m events) slice
 
-  -- THE CLAIM on a list of events, of the session that `opened q m` gave.
+  -- THE CLAIM on a list of events, of the session that `opened q series m` gave.
   -- "It gives a message when it answers 0 and 0 with that message in the slice, it says 'none' by refusal 9 with 0, and 'several' by
   -- refusal 10 with r."
   pub record Claim (events : List Event) : Type 0 where
     -- "each arrival in it is accepted exactly when document 01's slate takes it"
     pub arrival : (before rest : List Event) (p s r : ℕ) → events ≡ before ++ (Arrival p s r ∷ rest)
-        → Says (arrived (sessionAfter q m before) p s r .outcome) 0 0 ↔ T (accepts q (modelAfter q before) p s r)
+        → Says (arrived (sessionAfter q series m before) p s r .outcome) 0 0 ↔ T (accepts q (modelAfter q before) p s r)
     -- "after the list the reader, asked with a slice of the right length, gives a message exactly when it alone fits all symbols then on
     -- the slate"
     pub gives : (slice : List ℕ) → length slice ≡ size q m → (v : List ℕ)

@@ -14,6 +14,6 @@ arrivals (p ∷ places) [] rounds = []
 arrivals (p ∷ places) (s ∷ symbols) [] = []
 
 -- what asking answers after them; a refused opening ends it
-unfoldable pub replayed : ℕ → ℕ → List ℕ → List ℕ → List ℕ → List ℕ → Answer
-replayed q m places symbols rounds slice =
-    unlessRefused (opened q m .outcome) slice (asked (sessionAfter q m (arrivals places symbols rounds)) slice)
+unfoldable pub replayed : ℕ → ℕ → ℕ → List ℕ → List ℕ → List ℕ → List ℕ → Answer
+replayed q series m places symbols rounds slice =
+    unlessRefused (opened q series m .outcome) slice (asked (sessionAfter q series m (arrivals places symbols rounds)) slice)

@@ -14,10 +14,11 @@ use field::Curve;
 use field::Outcome;
 use job::Opening;
 
-// q, m and for each place the symbol of the highest round received there, and that round: 255 and 0 where none was, and 254 where
+// q, the strap series, m and for each place the symbol of the highest round received there, and that round: 255 and 0 where none was, and 254 where
 // two symbols of that round differed, a conflict. Places from n on are never read, nor their rounds.
 pub struct Session {
     pub q: u8,
+    pub series: u8,
     pub m: u16,
     pub places: [u8; 64],
     pub rounds: [u8; 64],
@@ -30,26 +31,27 @@ pub struct Reply {
 }
 
 // A session that has received nothing.
-fn empty_session(q: u8, m: u16) -> Session
-    ensures { λ r. ⌜ r ≡ emptySession q m ⌝ }
+fn empty_session(q: u8, series: u8, m: u16) -> Session
+    ensures { λ r. ⌜ r ≡ emptySession q series m ⌝ }
 {
     Session {
         q,
+        series,
         m,
         places: [255; 64],
         rounds: [0; 64],
     }
 }
 
-pub fn open(q: u8, m: u16) -> Reply
-    ensures { λ r. ⌜ r ≡ opened q m ⌝ }
+pub fn open(q: u8, series: u8, m: u16) -> Reply
+    ensures { λ r. ⌜ r ≡ opened q series m ⌝ }
 {
-    let outcome = code::check::order(field::curve::is_short(q), q, m as usize);
+    let outcome = code::check::order(field::curve::is_short(q), q, series, m as usize);
     if let Outcome::Done = outcome {
-        let session = empty_session(q, m);
+        let session = empty_session(q, series, m);
         Reply { session, outcome }
     } else {
-        let session = empty_session(2, 0);
+        let session = empty_session(2, 1, 0);
         Reply { session, outcome }
     }
 }
@@ -135,11 +137,16 @@ impl Session {
         }
     }
 
-    // The checks 1, 2, 4, 6 and 7 of an arrival.
+    // The checks 1, 17, 2, 4, 6 and 7 of an arrival.
     fn check(self, place: u16, symbol: u8) -> Outcome
         ensures { λ r. ⌜ r ≡ arrivalChecks self place symbol ⌝ }
     {
-        let first = code::check::order(field::curve::is_short(self.q), self.q, self.m as usize);
+        let first = code::check::order(
+            field::curve::is_short(self.q),
+            self.q,
+            self.series,
+            self.m as usize,
+        );
         let Outcome::Done = first else {
             return first;
         };
@@ -175,17 +182,17 @@ impl Session {
         }
     }
 
-    // Recovery from the stored q, m and first n places, one in conflict being missing.
+    // Recovery from the stored q, series, m and first n places, one in conflict being missing.
     pub fn ask(self, message: &mut [u8]) -> Outcome
         ensures { λ r. ⌜ asked self (now (message .entry)) ≡ record { outcome = r; slice = now (message .exit) } ⌝ }
     {
         let word = self.received_word();
         let n = word.points;
         let places = word.places;
-        recovery::recover(self.q, self.m, &places[..n], message)
+        recovery::recover(self.q, self.series, self.m, &places[..n], message)
     }
 
-    // A job of recovery from the stored q, m and first n places, one in conflict being missing: what asking recovers from.
+    // A job of recovery from the stored q, series, m and first n places, one in conflict being missing: what asking recovers from.
     pub fn job(self) -> Opening
         ensures { λ r. ⌜ jobOpened self ≡ record { task = taskOf (r .job); outcome = r .outcome } ⌝ }
         ensures { λ r. ⌜ Sound (r .job) ⌝ }
@@ -193,6 +200,6 @@ impl Session {
         let word = self.received_word();
         let n = word.points;
         let places = word.places;
-        job::open(self.q, self.m, &places[..n])
+        job::open(self.q, self.series, self.m, &places[..n])
     }
 }

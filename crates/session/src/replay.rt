@@ -21,16 +21,17 @@ fn receive(mut session: Session, places: &[u16], symbols: &[u8], rounds: &[u8]) 
 // What asking answers after the arrivals, or the opening where it is refused.
 pub fn replay(
     q: u8,
+    series: u8,
     m: u16,
     places: &[u16],
     symbols: &[u8],
     rounds: &[u8],
     message: &mut [u8],
 ) -> Outcome
-    ensures { λ r. ⌜ replayed q m (now (places .entry)) (now (symbols .entry)) (now (rounds .entry)) (now (message .entry))
+    ensures { λ r. ⌜ replayed q series m (now (places .entry)) (now (symbols .entry)) (now (rounds .entry)) (now (message .entry))
         ≡ record { outcome = r; slice = now (message .exit) } ⌝ }
 {
-    let start = crate::open(q, m);
+    let start = crate::open(q, series, m);
     let outcome = start.outcome;
     if let Outcome::Done = outcome {
         let session = receive(start.session, places, symbols, rounds);

@@ -17,8 +17,8 @@ use Rattle.field.proofs.Curves.{short-curve}
 use Rattle.field.proofs.Outcomes.{done-or-not}
 use Rattle.poly.specs.Messages.{Vector}
 use Rattle.poly.proofs.Messages.{vector-below}
-use Rattle.points.specs.Points.{columnsOf}
-use Rattle.points.proofs.ColumnPoints.{full-places}
+use Rattle.points.specs.Series.{columnsOf}
+use Rattle.points.proofs.Series.{full-places}
 use Rattle.points.proofs.Passing.{place-bound}
 use Rattle.code.specs.Answers.{Answer, answered}
 use Rattle.code.specs.Recovered.{Reading, message, reading, answerOf}
@@ -36,8 +36,8 @@ pub size-short : (q : ℕ) (columns : List ℕ) (m : ℕ) (word : List ℕ) → 
 size-short q columns m word h short =
     omega (arith, place-bound (isTerm q) (suc m), h .order, h .long, short-places q columns m word h short .1)
 
-pub order-short : (q m : ℕ) (word : List ℕ) → BrokenOver q (columnsOf q) m word → IsShort q → m < q * q * q
-order-short q m word h short = omega (arith, h .order, full-places q (short-curve q short))
+pub order-short : (q series m : ℕ) (word : List ℕ) → BrokenOver q (columnsOf q series) m word → IsShort q → m < q * q * q
+order-short q series m word h short = omega (arith, h .order, full-places q series (short-curve q short))
 
 -- ---- what an answer says of the reading
 

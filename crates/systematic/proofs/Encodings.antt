@@ -19,9 +19,9 @@ use Rattle.poly.specs.Sets.{Alone}
 use Rattle.poly.proofs.Bools.{true-or-false, T-true}
 use Rattle.poly.proofs.Filter.{mem-filter, of-mem-filter}
 use Rattle.poly.proofs.Messages.{mem-all, of-mem-all}
-use Rattle.points.specs.Points.{columnsOf}
+use Rattle.points.specs.Series.{columnsOf}
 use Rattle.points.specs.inner.Columns.{Columns}
-use Rattle.points.proofs.ColumnPoints.{full-columns, full-places, length-upTo}
+use Rattle.points.proofs.Series.{full-columns, length-columns, full-places}
 use Rattle.code.specs.Answers.{Answer, answered}
 use Rattle.code.specs.Recovered.{message, reading}
 use Rattle.code.specs.Terms.{size}
@@ -42,29 +42,29 @@ use Rattle.systematic.proofs.TermSystems.{completion-message, completio
 use Rattle.systematic.proofs.Checking.{Passed, checks-passed}
 
 -- a refusal of the checks is the answer, and the slice is as it was
-pub encoded-refused : (q m : ℕ) (places symbols slice : List ℕ) (o : Outcome) → o ≡ encodeAtChecks q m places symbols (length slice) → Refused o
-    → encodedAt q m places symbols slice ≡ answered o slice
+pub encoded-refused : (q series m : ℕ) (places symbols slice : List ℕ) (o : Outcome)
+    → o ≡ encodeAtChecks q series m places symbols (length slice) → Refused o → encodedAt q series m places symbols slice ≡ answered o slice
 unfolding encodedAt
-encoded-refused q m places symbols slice o e r = entry-refused (encodeAtChecks q m places symbols (length slice)) o slice _ e r
+encoded-refused q series m places symbols slice o e r = entry-refused (encodeAtChecks q series m places symbols (length slice)) o slice _ e r
 
-module _ (q m : ℕ) (places symbols slice : List ℕ) (checked : encodeAtChecks q m places symbols (length slice) ≡ Done) where
+module _ (q series m : ℕ) (places symbols slice : List ℕ) (checked : encodeAtChecks q series m places symbols (length slice) ≡ Done) where
   abbrev columns : List ℕ
-  columns = columnsOf q
+  columns = columnsOf q series
 
   abbrev wordFrom : List ℕ → List ℕ
   wordFrom = wordOf q columns m
 
-  passed : Passed q m places symbols (length slice)
-  passed = checks-passed q m places symbols (length slice) checked
+  passed : Passed q series m places symbols (length slice)
+  passed = checks-passed q series m places symbols (length slice) checked
 
   curve : IsCurve q
   curve = short-curve q (passed .short)
 
   over : Columns q columns
-  over = full-columns q curve
+  over = full-columns q series curve
 
   all-places : q * length columns ≡ q * q * q
-  all-places = full-places q curve
+  all-places = full-places q series curve
 
   order : m < q * length columns
   order = omega (arith, all-places, passed .order)
@@ -78,10 +78,10 @@ module _ (q m : ℕ) (places symbols slice : List ℕ) (checked : encodeAtChecks
   abbrev HasThem : List ℕ → Type 0
   HasThem = Has q columns over m places chosen symbols
 
-  past : encodedAt q m places symbols slice
+  past : encodedAt q series m places symbols slice
       ≡ cond (isInformationSet q columns m places) (theCodeword (codewordsWith q columns m places symbols) slice) (answered NoInformationSet slice)
   unfolding encodedAt
-  past = not-refused (encodeAtChecks q m places symbols (length slice)) slice _ checked
+  past = not-refused (encodeAtChecks q series m places symbols (length slice)) slice _ checked
 
   -- a codeword with the symbols is the word of a message that has them
   listed : (w : List ℕ) → Mem w (codewordsWith q columns m places symbols) → (u : List ℕ) × HasThem u × (wordFrom u ≡ w)
@@ -98,7 +98,7 @@ module _ (q m : ℕ) (places symbols slice : List ℕ) (checked : encodeAtChecks
       (Memᴰ·map wordFrom (mem-all (q * q) (size q m) u (h .0))) (to-same-list (symbolsAt places (wordFrom u)) symbols (h .1))
 
   -- where the places fix the codeword, it is the word of the one message that has the symbols
-  encoded-fixed : Fixes → (v : List ℕ) → Alone HasThem v → encodedAt q m places symbols slice ≡ answered Done (wordFrom v)
+  encoded-fixed : Fixes → (v : List ℕ) → Alone HasThem v → encodedAt q series m places symbols slice ≡ answered Done (wordFrom v)
   encoded-fixed h v alone =
       past ∙ rw (T-true (isInformationSet q columns m places) (test-of-fixing q columns over m places chosen h))
       (first (codewordsWith q columns m places symbols) listed (is-listed v (alone .has)))
@@ -108,7 +108,7 @@ module _ (q m : ℕ) (places symbols slice : List ℕ) (checked : encodeAtChecks
       first [] sound k = absurd (not-nil k)
       first (w ∷ l) sound k = let (u, has, e) = sound w (head refl) in ap (answered Done) (sym e ∙ ap wordFrom (alone .only u has))
 
-  encoded-16 : (Fixes → ⊥) → encodedAt q m places symbols slice ≡ answered NoInformationSet slice
+  encoded-16 : (Fixes → ⊥) → encodedAt q series m places symbols slice ≡ answered NoInformationSet slice
   encoded-16 d = elim (true-or-false (isInformationSet q columns m places)) [
     | inl t ↦ absurd (d (fixing-of-test q columns over m places chosen order (rw t tt)))
     | inr e ↦ past ∙ rw e refl
@@ -123,7 +123,7 @@ module _ (q m : ℕ) (places symbols slice : List ℕ) (checked : encodeAtChecks
   broken-over =
       record {
         over = over;
-        few = omega (arith, length-upTo (q * q));
+        few = omega (arith, length-columns q series curve);
         order = order;
         long = long;
         value = λ p l. ⊎-elim (λ w. inr (rw (← w .2) (symbol (w .0) (w .1)))) (λ e. inl e)
@@ -138,12 +138,13 @@ module _ (q m : ℕ) (places symbols slice : List ℕ) (checked : encodeAtChecks
           rw (broken-at q columns over m places chosen symbols i l, sizes q curve .size) (passed .message .small i (omega (arith, passed .chosen .many)))
 
   abbrev Completed : Type 0
-  Completed = completion wordFrom (reading (q * q) (size q m) wordFrom brokenWord) slice ≡ encodedAt q m places symbols slice
+  Completed = completion wordFrom (reading (q * q) (size q m) wordFrom brokenWord) slice ≡ encodedAt q series m places symbols slice
 
   -- its completion is the answer
-  pub completed : completion wordFrom (reading (fieldOf q .size) (size q m) wordFrom brokenWord) slice ≡ encodedAt q m places symbols slice
+  pub completed : completion wordFrom (reading (fieldOf q .size) (size q m) wordFrom brokenWord) slice ≡ encodedAt q series m places symbols slice
   completed =
-      subst (λ (Q : ℕ). completion wordFrom (reading Q (size q m) wordFrom brokenWord) slice ≡ encodedAt q m places symbols slice) (sym (sizes q curve .size))
+      subst (λ (Q : ℕ). completion wordFrom (reading Q (size q m) wordFrom brokenWord) slice ≡ encodedAt q series m places symbols slice)
+      (sym (sizes q curve .size))
       (⊎-elim refused-16 fixed (two-or-fixing q columns over m places chosen order))
     where
       fixed : Fixes → Completed
@@ -162,7 +163,7 @@ module _ (q m : ℕ) (places symbols slice : List ℕ) (checked : encodeAtChecks
   -- ---- THE LAWS OF THE REQUEST
 
   -- "It refuses a set of places exactly when two codewords agree on all of them, whichever symbols come along."
-  pub refuses-exactly : (encodedAt q m places symbols slice .outcome ≡ NoInformationSet) ↔ TwoAgree q columns m places
+  pub refuses-exactly : (encodedAt q series m places symbols slice .outcome ≡ NoInformationSet) ↔ TwoAgree q columns m places
   refuses-exactly = (
     λ e. ⊎-elim (λ two. two)
         (λ h.
@@ -180,10 +181,10 @@ module _ (q m : ℕ) (places symbols slice : List ℕ) (checked : encodeAtChecks
     pub is-codeword : word ≡ wordFrom message
     pub has-symbols : symbolsAt places word ≡ symbols
     pub only : (other : List ℕ) → Vector (q * q) (size q m) other → symbolsAt places (wordFrom other) ≡ symbols → wordFrom other ≡ word
-    pub unencodes : (room : List ℕ) → length room ≡ size q m → unencoded q m word room ≡ answered Done message
+    pub unencodes : (room : List ℕ) → length room ≡ size q m → unencoded q series m word room ≡ answered Done message
 
   -- "writes the only codeword with those symbols there", or refuses with 16 and leaves the slice
-  pub encodes : (word : List ℕ) → encodedAt q m places symbols slice ≡ answered Done word → Encodes word
+  pub encodes : (word : List ℕ) → encodedAt q series m places symbols slice ≡ answered Done word → Encodes word
   encodes word e = ⊎-elim not-here here (two-or-fixing q columns over m places chosen order)
     where
       not-here : TwoAgree q columns m places → Encodes word
@@ -202,12 +203,13 @@ module _ (q m : ℕ) (places symbols slice : List ℕ) (checked : encodeAtChecks
             has-symbols = ap (symbolsAt places) is ∙ alone .has .1;
             only = λ w hw s. ap wordFrom (alone .only w (hw, s)) ∙ sym is;
             unencodes = λ room long.
-                let u = unencode-encode q m curve (passed .order) v slice room (alone .has .0) (passed .fits) long in
-                ap (λ (x : List ℕ). unencoded q m x room) is ∙ ap (λ (a : Answer). unencoded q m (a .slice) room) (sym (u .0)) ∙ u .1;
+                let u = unencode-encode q series m curve (passed .named) (passed .order) v slice room (alone .has .0) (passed .fits) long in
+                ap (λ (x : List ℕ). unencoded q series m x room) is ∙ ap (λ (a : Answer). unencoded q series m (a .slice) room) (sym (u .0)) ∙ u .1;
           }
 
   -- a call that passes the other checks is done, or refused with 16, which leaves the slice
-  pub done-or-16 : ((word : List ℕ) × (encodedAt q m places symbols slice ≡ answered Done word)) ⊎ (encodedAt q m places symbols slice ≡ answered NoInformationSet slice)
+  pub done-or-16 : ((word : List ℕ) × (encodedAt q series m places symbols slice ≡ answered Done word))
+      ⊎ (encodedAt q series m places symbols slice ≡ answered NoInformationSet slice)
   done-or-16 =
       ⊎-elim (λ two. inr (encoded-16 (not-fixing q columns over m places chosen order two)))
       (λ h. let (v, alone) = has-one q columns over m places chosen h symbols (passed .message) in inl (wordFrom v, encoded-fixed h v alone))

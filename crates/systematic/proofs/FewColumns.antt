@@ -2,7 +2,7 @@
 -- Where that is at most m, it is a message whose word is 0 at all of the places, though not everywhere.
 -- Assumes nothing.
 use mathlib.Core.Bool.{Bool, true, false, cond}
-use mathlib.Core.List.{List, [], _∷_, map, Memᴰ·map, List·Memᴰ as Mem, List·Memᴰ·head as head, List·Memᴰ·tail as tail}
+use mathlib.Core.List.{List, [], _∷_, map, Memᴰ·map, Memᴰ·of-map, List·Memᴰ as Mem, List·Memᴰ·head as head, List·Memᴰ·tail as tail}
 use mathlib.Core.List.{List·Memᴰ·not-nil as not-nil, List·Memᴰ·cases-cons as cases-cons}
 use mathlib.Core.Logic.{_⊎_, inl, inr}
 use mathlib.Core.Path.{_≡_, refl, sym, ap, ap₂, _∙_, subst}
@@ -12,7 +12,7 @@ use native.Mathlib.Decide.{ℕ-discrete, decLt}
 use native.Mathlib.Omega.{arith}
 use borrow.Author.Tests.{ne-eqb}
 use lib.Dec.{eqb}
-use lib.ListN.{length, getD, take}
+use lib.ListN.{length, getD, take, length-map}
 use lib.Seq.{length-take-le, getD-take}
 use Rattle.field.specs.Plus.{plus}
 use Rattle.field.specs.Field.{Field}
@@ -29,9 +29,11 @@ use Rattle.poly.specs.Messages.{Vector}
 use Rattle.poly.proofs.Keep.{keep, keep-zero}
 use Rattle.poly.proofs.Lists.{find, pigeonhole, mem-getD, getD-mem, mem-flatMap}
 use Rattle.points.specs.Passing.{passing, upTo}
-use Rattle.points.specs.Points.{ysOf, pointsOn, columnsOf}
+use Rattle.points.specs.Points.{ysOf, pointsOn}
+use Rattle.points.specs.Series.{columnsOf}
 use Rattle.points.specs.inner.Columns.{Columns}
-use Rattle.points.proofs.ColumnPoints.{length-ys, length-upTo, up-to-at, full-columns, full-places}
+use Rattle.points.proofs.ColumnPoints.{length-ys, length-upTo, up-to-at}
+use Rattle.points.proofs.Series.{full-columns, length-columns, full-places}
 use Rattle.points.proofs.Places.{column-of}
 use Rattle.points.proofs.Points.{IsPoint, is-point}
 use Rattle.code.specs.Terms.{isTerm, xPower, yPower, size}
@@ -214,13 +216,19 @@ module _ (q : ℕ) (columns : List ℕ) (over : Columns q columns) where
     pub few-columns : TwoAgree q columns m places
     few-columns = elim (two-or-fixing q columns over m places chosen order) [ inl two ↦ two | inr h ↦ absurd (not-fixed h) ]
 
--- over all columns, where column number x is that of x
-pub few-of-all-columns : (q : ℕ) → IsCurve q → (m : ℕ) → m < q * q * q → (places : List ℕ) → Places (size q m) (q * q * q) places
-    → (xs : List ℕ) → ((x : ℕ) → Mem x xs → x < q * q) → q * length xs ≤ m
-    → ((i : ℕ) → i < length places → Mem (getD places i 0 / q) xs) → TwoAgree q (columnsOf q) m places
-few-of-all-columns q curve m order places chosen xs small few inside =
-    few-columns q (columnsOf q) (full-columns q curve) m (omega (arith, full-places q curve)) places (rw (full-places q curve) chosen) xs small few
-    (λ i k. let x = getD places i 0 / q in subst (λ (x : ℕ). Mem x xs) (sym (up-to-at (q * q) x (small x (inside i k)))) (inside i k))
+-- over all columns, by their numbers
+pub few-of-all-columns : (q series : ℕ) → IsCurve q → (m : ℕ) → m < q * q * q → (places : List ℕ) → Places (size q m) (q * q * q) places
+    → (ts : List ℕ) → ((t : ℕ) → Mem t ts → t < q * q) → q * length ts ≤ m
+    → ((i : ℕ) → i < length places → Mem (getD places i 0 / q) ts) → TwoAgree q (columnsOf q series) m places
+few-of-all-columns q series curve m order places chosen ts small few inside =
+    let column : ℕ → ℕ = λ t. getD (columnsOf q series) t 0 in
+    few-columns q (columnsOf q series) (full-columns q series curve) m (omega (arith, full-places q series curve)) places
+    (rw (full-places q series curve) chosen) (map column ts)
+    (λ x k.
+    let (t, i, e) = Memᴰ·of-map column ts k in
+    rw (← e) (full-columns q series curve .small t (omega (arith, length-columns q series curve, small t i))))
+    (omega (arith, ap (λ (n : ℕ). q * n) (length-map ts column)))
+    (λ i k. Memᴰ·map column (inside i k))
 
 -- ---- the first k places
 
@@ -253,6 +261,8 @@ first-few q columns over m order c room few =
     rw (up-to-at k i h, ← getD-take c columns (i / q) 0 b) (mem-getD (take c columns) 0 (i / q) (rw long b)))
 
 -- the strap's first eight columns, which hold its k = 32 places
-pub first-columns : TwoAgree 4 (columnsOf 4) 37 (upTo 32)
+pub first-columns : (series : ℕ) → TwoAgree 4 (columnsOf 4 series) 37 (upTo 32)
 unfolding passing
-first-columns = first-few 4 (columnsOf 4) (full-columns 4 (inr (inl refl))) 37 (omega arith) 8 (omega arith) (omega arith)
+first-columns series =
+    let curve = inr (inl refl) in
+    first-few 4 (columnsOf 4 series) (full-columns 4 series curve) 37 (omega (arith, full-places 4 series curve)) 8 (omega arith) (omega arith)

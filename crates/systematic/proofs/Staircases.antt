@@ -17,6 +17,7 @@ use lib.Seq.{ext-getD}
 use Rattle.field.specs.Field.{Field}
 use Rattle.field.specs.Plus.{plus}
 use Rattle.field.specs.Tests.{every}
+use Rattle.field.specs.Curve.{IsCurve}
 use Rattle.field.proofs.Plus.{plus-self, eq-of-plus-zero}
 use Rattle.field.proofs.Fields.{fieldOf}
 use Rattle.field.proofs.FieldLaws.{zero-lt}
@@ -32,9 +33,11 @@ use Rattle.poly.proofs.Parts.{below-mem}
 use Rattle.poly.proofs.Roots.{root-bound}
 use Rattle.poly.proofs.Values.{value-lt, value-zeros, value-extend}
 use Rattle.points.specs.Passing.{passing, upTo}
-use Rattle.points.specs.Points.{ysOf, columnsOf}
+use Rattle.points.specs.Points.{ysOf}
+use Rattle.points.specs.Series.{columnsOf}
 use Rattle.points.specs.inner.Columns.{Columns, columnY}
-use Rattle.points.proofs.ColumnPoints.{length-ys, y-symbol, length-upTo, full-columns}
+use Rattle.points.proofs.ColumnPoints.{length-ys, y-symbol, length-upTo}
+use Rattle.points.proofs.Series.{full-columns, length-columns}
 use Rattle.points.proofs.Passing.{at-place, ascending as passing-ascending, nodup-passing, mem-passing, of-mem-passing}
 use Rattle.points.proofs.Places.{column-of, remainder}
 use Rattle.points.proofs.Points.{nodup-ys}
@@ -314,18 +317,24 @@ pub strap-light : lightPlaces 4 16 37 ≡ strapStaircase
 unfolding passing
 strap-light = refl
 
-pub strap-staircase : Staircase 4 (columnsOf 4) 37 strapStaircase
-unfolding isStaircase isAmong passing every
-strap-staircase = of-test 4 (columnsOf 4) 37 strapStaircase tt
+pub strap-curve : IsCurve 4
+strap-curve = inr (inl refl)
 
-pub strap-places : Places (size 4 37) (4 * length (columnsOf 4)) strapStaircase
-unfolding goodPlaces isAscending areBelow passing every
-strap-places = of-good 32 64 strapStaircase tt
+-- in either series
+module _ (series : ℕ) where
+  pub strap-staircase : Staircase 4 (columnsOf 4 series) 37 strapStaircase
+  unfolding isStaircase isAmong passing every
+  strap-staircase = of-test 4 (columnsOf 4 series) 37 strapStaircase (rw (length-columns 4 series strap-curve) tt)
 
-pub strap-fixing : Fixing 4 (columnsOf 4) (full-columns 4 (inr (inl refl))) 37 strapStaircase strap-places
-unfolding passing
-strap-fixing = staircase-fixing 4 (columnsOf 4) (full-columns 4 (inr (inl refl))) 37 (omega arith) strapStaircase strap-staircase strap-places
+  pub strap-places : Places (size 4 37) (4 * length (columnsOf 4 series)) strapStaircase
+  unfolding goodPlaces isAscending areBelow passing every
+  strap-places = rw (length-columns 4 series strap-curve) (of-good 32 64 strapStaircase tt)
 
-pub strap-information : T (isInformationSet 4 (columnsOf 4) 37 strapStaircase)
-unfolding passing
-strap-information = staircase-information 4 (columnsOf 4) (full-columns 4 (inr (inl refl))) 37 (omega arith) strapStaircase strap-staircase strap-places
+  strap-order : 37 < 4 * length (columnsOf 4 series)
+  strap-order = omega (arith, length-columns 4 series strap-curve)
+
+  pub strap-fixing : Fixing 4 (columnsOf 4 series) (full-columns 4 series strap-curve) 37 strapStaircase strap-places
+  strap-fixing = staircase-fixing 4 (columnsOf 4 series) (full-columns 4 series strap-curve) 37 strap-order strapStaircase strap-staircase strap-places
+
+  pub strap-information : T (isInformationSet 4 (columnsOf 4 series) 37 strapStaircase)
+  strap-information = staircase-information 4 (columnsOf 4 series) (full-columns 4 series strap-curve) 37 strap-order strapStaircase strap-staircase strap-places

@@ -10,7 +10,7 @@ use native.Mathlib.Omega.{arith}
 use borrow.Rule.Slice.PartMut.{putMid}
 use lib.ListN.{length, getD, set, replicate, length-set, length-replicate, getD-replicate, List·getD-eq-default}
 use lib.Seq.{ext-getD, getD-set-same, getD-set-other}
-use Rattle.field.specs.Curve.{IsCurve, IsShort}
+use Rattle.field.specs.Curve.{IsShort}
 use Rattle.field.specs.Power.{power}
 use Rattle.field.proofs.Fields.{fieldOf}
 use Rattle.field.proofs.FieldLaws.{zero-lt}
@@ -25,9 +25,7 @@ use Rattle.poly.proofs.Lists.{getD-map}
 use Rattle.poly.proofs.Multiples.{length-stored, stored-in, stored-all, below-stored}
 use Rattle.poly.proofs.Parts.{length-part, part-at, below-part, put-is, length-put, put-low, put-in, below-back}
 use Rattle.poly.proofs.Writes.{length-writes, writes-in, below-writes}
-use Rattle.points.specs.Points.{columnsOf}
 use Rattle.points.specs.inner.Columns.{columnY}
-use Rattle.points.proofs.ColumnPoints.{full-places}
 use Rattle.points.proofs.Passing.{at-place}
 use Rattle.code.specs.Terms.{isTerm, weights, size}
 use Rattle.code.specs.inner.Grid.{entryOf, entriesOf}
@@ -342,25 +340,22 @@ rows-room q short m i order e =
     omega (arith, short-sizes q short .symbols, rows-fit q m (q * q) (omega (arith, z .low)) (omega (arith, z .grid)))
 
 pub words-written : (q : ℕ) → IsShort q → (m k i : ℕ) (xs ys xpowers ypowers vectors : List ℕ) → k ≡ size q m → i ≡ m / q
-    → PointLists q (columnsOf q) xs ys → PowerRows q xs (i + 1) xpowers → PowerRows q ys q ypowers
-    → ProductRows q m xpowers ypowers vectors k → TermWords q (columnsOf q) m vectors
+    → (columns : List ℕ) → q * length columns ≤ 64 → PointLists q columns xs ys → PowerRows q xs (i + 1) xpowers → PowerRows q ys q ypowers
+    → ProductRows q m xpowers ypowers vectors k → TermWords q columns m vectors
 unfolding rowOf
-words-written q short m k i xs ys xpowers ypowers vectors is-k is-i points x y rows =
+words-written q short m k i xs ys xpowers ypowers vectors is-k is-i columns room points x y rows =
     record { symbols = rows .symbols; at = each }
   where
-    curve : IsCurve q
-    curve = short-curve q short
-
     pos : 0 < q
-    pos = omega (arith, sizes q curve .low)
+    pos = omega (arith, sizes q (short-curve q short) .low)
 
-    each : (t p : ℕ) → t < size q m → p < q * length (columnsOf q) → entry vectors (64 * t + p) ≡ rowOf q (columnsOf q) m p t
+    each : (t p : ℕ) → t < size q m → p < q * length columns → entry vectors (64 * t + p) ≡ rowOf q columns m p t
     each t p a b =
         let w : ℕ = getD (weights q m) t 0 in
         let e : ℕ = getD (entriesOf q m) t 0 in
         let is-e : e ≡ entryOf q w = getD-map (entryOf q) (weights q m) 0 0 t a in
         let term = at-place (isTerm q) (suc m) t a .1 in
-        let few : p < 64 = omega (arith, full-places q curve, short-sizes q short .points) in
+        let few : p < 64 = omega arith in
         let row : e / q < i + 1 = omega (arith, is-i, entry-row q pos m t a) in
         rows .at t p (omega arith) few
         ∙ fieldOf q .times-comm _ _

@@ -8,19 +8,19 @@ use Rattle.field.specs.Curve.{isShort, curveOf}
 use Rattle.field.specs.Outcomes.{refuse}
 use Rattle.field.specs.declared.outcome.Outcome.{Outcome}
 use Rattle.field.specs.declared.outcome.Outcome.the-variants.{Done, BadPlaces, NoInformationSet}
-use Rattle.points.specs.Points.{columnsOf}
+use Rattle.points.specs.Series.{columnsOf}
 use Rattle.code.specs.Terms.{size}
 use Rattle.code.specs.Checks.{orderChecks, sliceChecks}
 use Rattle.code.specs.Answers.{Answer, answered, unlessRefused}
 use Rattle.systematic.specs.Places.{goodPlaces}
 use Rattle.systematic.specs.InformationSets.{isInformationSet, codewordsWith}
 
--- 1, 2, "15: places not ascending, not k, or n or more, tested after 2", 3 ("symbols not k in number meet 3"), 4, and 5 ("5 here means n")
-unfoldable pub encodeAtChecks : ℕ → ℕ → List ℕ → List ℕ → ℕ → Outcome
-encodeAtChecks q m places symbols room =
+-- 1, 17 (T-11), 2, "15: places not ascending, not k, or n or more, tested after 2", 3 ("symbols not k in number meet 3"), 4, and 5 ("5 here means n")
+unfoldable pub encodeAtChecks : ℕ → ℕ → ℕ → List ℕ → List ℕ → ℕ → Outcome
+encodeAtChecks q series m places symbols room =
     let k = size q m in
     let n = curveOf q .points in
-    orderChecks (isShort q) q m
+    orderChecks (isShort q) q series m
     (refuse (not (goodPlaces k n places)) BadPlaces
     (sliceChecks false (curveOf q .symbols) k symbols n room Done))
 
@@ -29,9 +29,9 @@ abbrev pub theCodeword : List (List ℕ) → List ℕ → Answer
 theCodeword [] slice = answered NoInformationSet slice
 theCodeword (word ∷ rest) slice = answered Done word
 
-unfoldable pub encodedAt : ℕ → ℕ → List ℕ → List ℕ → List ℕ → Answer
-encodedAt q m places symbols slice =
-    unlessRefused (encodeAtChecks q m places symbols (length slice)) slice
-    (cond (isInformationSet q (columnsOf q) m places)
-    (theCodeword (codewordsWith q (columnsOf q) m places symbols) slice)
+unfoldable pub encodedAt : ℕ → ℕ → ℕ → List ℕ → List ℕ → List ℕ → Answer
+encodedAt q series m places symbols slice =
+    unlessRefused (encodeAtChecks q series m places symbols (length slice)) slice
+    (cond (isInformationSet q (columnsOf q series) m places)
+    (theCodeword (codewordsWith q (columnsOf q series) m places symbols) slice)
     (answered NoInformationSet slice))

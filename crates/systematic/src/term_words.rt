@@ -1,12 +1,13 @@
 // The words of the terms of a short block: each term's values at all places, in rows of 64 symbols.
+ghost use mathlib.Core.List.{List};
 ghost use mathlib.Core.Path.{_≡_};
-ghost use Prim.Native.Nat.{_+_, _*_, _/_, _%_, _≤_, _<_};
+ghost use Prim.Native.Nat.{ℕ, _+_, _*_, _/_, _%_, _≤_, _<_};
 ghost use lib.ListN.{length};
 ghost use Rattle.field.specs.Curve.{IsShort};
 ghost use Rattle.field.proofs.Fields.{fieldOf};
 ghost use Rattle.poly.specs.inner.Ranges.{Below, writes};
 ghost use Rattle.poly.specs.inner.Linear.{entry};
-ghost use Rattle.points.specs.Points.{columnsOf};
+ghost use Rattle.points.specs.Series.{columnsOf};
 ghost use Rattle.points.specs.inner.Columns.{Columns, Ys};
 ghost use Rattle.code.specs.Terms.{size};
 ghost use Rattle.systematic.specs.inner.TermWords.{PowerRows, PointLists, ProductRows, TermWords};
@@ -111,8 +112,9 @@ fn write_points(q: u8, columns: &[u8], all: &[u8], xs: &mut [u8], ys: &mut [u8])
 // The words of the terms, k of them, from the points of their places.
 fn write_words(q: u8, m: usize, k: usize, xs: &[u8], ys: &[u8], vectors: &mut [u8])
     requires { ⌜ IsShort q × (m < q * q * q) × (k ≡ size q m) × (64 * k ≤ length (now vectors)) × Below (fieldOf q .size) (now vectors) ⌝ }
-    requires { ⌜ (length (now xs) ≡ 64) × (length (now ys) ≡ 64) × PointLists q (columnsOf q) (now xs) (now ys) ⌝ }
-    ensures { λ _. ⌜ TermWords q (columnsOf q) m (now (vectors .exit)) ⌝ }
+    requires { ⌜ (length (now xs) ≡ 64) × (length (now ys) ≡ 64) × Below (fieldOf q .size) (now xs) × Below (fieldOf q .size) (now ys) ⌝ }
+    ensures { λ _. ⌜ ((columns : List ℕ) → q * length columns ≤ 64 → PointLists q columns (now (xs .entry)) (now (ys .entry))
+        → TermWords q columns m (now (vectors .exit))) ⌝ }
 {
     let last = term::divide(q, m);
     let mut xpowers = [0u8; 1024];
@@ -123,11 +125,11 @@ fn write_words(q: u8, m: usize, k: usize, xs: &[u8], ys: &[u8], vectors: &mut [u
 }
 
 // The words of the terms of the order m, k of them.
-pub fn write(q: u8, m: usize, k: usize, vectors: &mut [u8])
+pub fn write(q: u8, series: u8, m: usize, k: usize, vectors: &mut [u8])
     requires { ⌜ IsShort q × (m < q * q * q) × (k ≡ size q m) × (64 * k ≤ length (now vectors)) × Below (fieldOf q .size) (now vectors) ⌝ }
-    ensures { λ _. ⌜ TermWords q (columnsOf q) m (now (vectors .exit)) ⌝ }
+    ensures { λ _. ⌜ TermWords q (columnsOf q series) m (now (vectors .exit)) ⌝ }
 {
-    let columns = points::columns();
+    let columns = points::columns(q, series);
     let all = points::ys(q);
     let width = q as usize;
     let c = width * width;

@@ -1,11 +1,11 @@
-//! The code at q = 4, m = 37 as one would write it plainly in Rust, with a
+//! The code at q = 4, m = 37 in series 1 as one would write it plainly in Rust, with a
 //! product table and matrices worked out beforehand.
 
 use reference::code;
 use reference::curve::Curve;
 use reference::outcome::Outcome;
 
-use crate::{K, M, MISSING, N, Q};
+use crate::{K, M, MISSING, N, Q, SERIES};
 
 const SIZE: usize = 16;
 
@@ -320,7 +320,7 @@ fn term_word(index: usize) -> [u8; N] {
     let mut coefficients = [0; H_TERMS];
     coefficients[index] = 1;
     let mut word = [0; N];
-    let outcome = code::encode(Q, H_ORDER, &coefficients, &mut word);
+    let outcome = code::encode(Q, SERIES, H_ORDER, &coefficients, &mut word);
     assert_eq!(outcome, Outcome::ACCEPTED);
     word
 }

@@ -10,7 +10,7 @@ use reference::sample::{self, Shape};
 
 use crate::long_baseline::LongBaseline;
 use crate::timing::{self, Times};
-use crate::{baseline, fixed, packed, print_heading, print_row};
+use crate::{baseline, fixed, packed, print_heading, print_row, SERIES};
 
 pub const Q: u8 = 8;
 pub const M: u16 = 300;
@@ -42,7 +42,7 @@ pub fn print_table() {
 fn encoding_times(baseline: &LongBaseline, messages: &[Message]) -> Times {
     for message in messages {
         let (mut ours, mut theirs) = ([0; N], [0; N]);
-        let answer = packed(hermitian::encode(Q, M, message, &mut ours));
+        let answer = packed(hermitian::encode(Q, SERIES, M, message, &mut ours));
         assert_eq!(baseline.encode(message, &mut theirs), answer);
         assert_eq!(ours, theirs);
     }
@@ -51,7 +51,13 @@ fn encoding_times(baseline: &LongBaseline, messages: &[Message]) -> Times {
         messages.len(),
         || {
             for message in messages {
-                let _ = black_box(hermitian::encode(Q, M, black_box(message), &mut ours));
+                let _ = black_box(hermitian::encode(
+                    Q,
+                    SERIES,
+                    M,
+                    black_box(message),
+                    &mut ours,
+                ));
                 black_box(&ours);
             }
         },
@@ -67,7 +73,7 @@ fn encoding_times(baseline: &LongBaseline, messages: &[Message]) -> Times {
 fn unencoding_times(baseline: &LongBaseline, words: &[Word]) -> Times {
     decoding_times(
         words,
-        |word, message| packed(hermitian::unencode(Q, M, word, message)),
+        |word, message| packed(hermitian::unencode(Q, SERIES, M, word, message)),
         |word, message| baseline.unencode(word, message),
     )
 }
@@ -76,7 +82,7 @@ fn recovery_times(baseline: &LongBaseline, words: &[Word]) -> Times {
     let mut work = vec![0; WORK_LENGTH];
     decoding_times(
         words,
-        |word, message| packed(hermitian::recover_long(M, word, message, &mut work)),
+        |word, message| packed(hermitian::recover_long(SERIES, M, word, message, &mut work)),
         |word, message| baseline.recover(word, message),
     )
 }

@@ -8,7 +8,7 @@ use reference::outcome::Outcome;
 
 use crate::baseline::DONE;
 use crate::long::{Message, Word, K, M, N, Q};
-use crate::MISSING;
+use crate::{MISSING, SERIES};
 
 const SIZE: usize = 64;
 
@@ -217,7 +217,7 @@ fn word_of_term(index: usize) -> Word {
     let mut coefficients = [0; K];
     coefficients[index] = 1;
     let mut word = [0; N];
-    let outcome = code::encode(Q, M, &coefficients, &mut word);
+    let outcome = code::encode(Q, SERIES, M, &coefficients, &mut word);
     assert_eq!(outcome, Outcome::ACCEPTED);
     word
 }

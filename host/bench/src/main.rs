@@ -1,6 +1,6 @@
 //! Times of the proved library, through C, beside a plain Rust baseline, in
-//! one run on the same inputs at q = 4, m = 37. Checks first that both give
-//! the same answers.
+//! one run on the same inputs at q = 4, m = 37 in series 1. Checks first that both
+//! give the same answers.
 //!
 //! With `long` as argument it does the same for long blocks at q = 8, m = 300. With
 //! `blocks` it compares programs instead, with `turns` recovery in turns with
@@ -30,6 +30,7 @@ use reference::sample::{self, Shape};
 use timing::Times;
 
 const Q: u8 = 4;
+const SERIES: u8 = 1;
 const M: u16 = 37;
 const K: usize = 32;
 const N: usize = 64;
@@ -42,7 +43,7 @@ const SEED: u64 = 37;
 
 type Message = [u8; K];
 type Word = [u8; N];
-type LibraryCall = fn(u8, u16, &[u8], &mut [u8]) -> Result<(), Refusal>;
+type LibraryCall = fn(u8, u8, u16, &[u8], &mut [u8]) -> Result<(), Refusal>;
 
 const BASELINE_MODE: &str = "blocks-baseline";
 const USAGE: &str = "arguments, one of these:
@@ -53,9 +54,10 @@ const USAGE: &str = "arguments, one of these:
   places              times of encoding at chosen places and of recovery from these places
   blocks-baseline     the baseline's `blocks`, from standard input to standard output
   OPERATION CALLS     the library alone, for a profiler;
-                      the operation is encode, encode-at, unencode,
+                      the operation is encode, encode-at, unencode, convert,
                       recover-COUNT, where COUNT symbols are missing,
-                      or mend-COUNT, where COUNT symbols are wrong, of short blocks;
+                      or mend-COUNT, where COUNT symbols are wrong, of short blocks,
+                      each with series-2- before it for the other series;
                       long-encode, long-unencode or long-recover-COUNT of long ones";
 
 fn main() -> ExitCode {
@@ -134,7 +136,7 @@ fn print_row(name: &str, times: &Times) {
 fn encoding_times(baseline: &Baseline, messages: &[Message]) -> Times {
     for message in messages {
         let (mut ours, mut theirs) = ([0; N], [0; N]);
-        let answer = packed(hermitian::encode(Q, M, message, &mut ours));
+        let answer = packed(hermitian::encode(Q, SERIES, M, message, &mut ours));
         assert_eq!(baseline.encode(message, &mut theirs), answer);
         assert_eq!(ours, theirs);
     }
@@ -143,7 +145,13 @@ fn encoding_times(baseline: &Baseline, messages: &[Message]) -> Times {
         messages.len(),
         || {
             for message in messages {
-                let _ = black_box(hermitian::encode(Q, M, black_box(message), &mut ours));
+                let _ = black_box(hermitian::encode(
+                    Q,
+                    SERIES,
+                    M,
+                    black_box(message),
+                    &mut ours,
+                ));
                 black_box(&ours);
             }
         },
@@ -177,7 +185,7 @@ fn decoding_times(
 ) -> Times {
     for word in words.iter().chain(&damaged(words)) {
         let (mut ours, mut theirs) = ([99; K], [99; K]);
-        let answer = packed(library(Q, M, word, &mut ours));
+        let answer = packed(library(Q, SERIES, M, word, &mut ours));
         assert_eq!(baseline(word, &mut theirs), answer);
         assert!(answer != baseline::DONE || ours == theirs);
     }
@@ -186,7 +194,7 @@ fn decoding_times(
         words.len(),
         || {
             for word in words {
-                let _ = black_box(library(Q, M, black_box(word), &mut ours));
+                let _ = black_box(library(Q, SERIES, M, black_box(word), &mut ours));
                 black_box(&ours);
             }
         },
@@ -205,7 +213,9 @@ type MendOutput = (Message, Word, Word);
 fn mending_times(baseline: &Baseline, words: &[Word], wrong: usize) -> Times {
     let words = &wrong_words(words, wrong);
     let library = |word: &Word, (message, mended, marks): &mut MendOutput| {
-        packed(hermitian::mend_into(Q, M, word, message, mended, marks))
+        packed(hermitian::mend_into(
+            Q, SERIES, M, word, message, mended, marks,
+        ))
     };
     let baseline = |word: &Word, (message, mended, marks): &mut MendOutput| {
         baseline.mend(word, message, mended, marks)

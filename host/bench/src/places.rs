@@ -9,7 +9,7 @@ use reference::sample::{self, places, Shape};
 
 use crate::baseline::{self, Baseline};
 use crate::timing::{self, Times};
-use crate::{fixed, packed, print_row, shape, K, M, N, Q, SEED};
+use crate::{fixed, packed, print_row, shape, K, M, N, Q, SEED, SERIES};
 
 const INPUTS: usize = 64;
 const ORDERS: [u16; 9] = [0, 10, 20, 30, 37, 38, 45, 55, 63];
@@ -84,7 +84,9 @@ fn times_beside_the_baseline(baseline: &Baseline, inputs: &[Input], expected: u3
         .collect();
     for (places, symbols) in &inputs {
         let (mut ours, mut theirs) = ([99; N], [99; N]);
-        let answer = packed(hermitian::encode_at(Q, M, places, symbols, &mut ours));
+        let answer = packed(hermitian::encode_at(
+            Q, SERIES, M, places, symbols, &mut ours,
+        ));
         assert_eq!(answer, expected);
         assert_eq!(baseline.encode_at(places, symbols, &mut theirs), expected);
         assert_eq!(ours, theirs);
@@ -95,7 +97,9 @@ fn times_beside_the_baseline(baseline: &Baseline, inputs: &[Input], expected: u3
         || {
             for (places, symbols) in &inputs {
                 let (places, symbols) = black_box((places, symbols));
-                let _ = black_box(hermitian::encode_at(Q, M, places, symbols, &mut ours));
+                let _ = black_box(hermitian::encode_at(
+                    Q, SERIES, M, places, symbols, &mut ours,
+                ));
                 black_box(&ours);
             }
         },
@@ -146,8 +150,8 @@ fn assert_same_codewords(shape: Shape, inputs: &[Input]) {
     for input in inputs {
         let (mut word, mut message) = (vec![99; shape.n], vec![99; shape.k]);
         let (places, symbols) = (&input.places, &input.symbols);
-        let encoded = hermitian::encode_at(Q, shape.m, places, symbols, &mut word);
-        let recovered = hermitian::recover(Q, shape.m, &input.broken, &mut message);
+        let encoded = hermitian::encode_at(Q, SERIES, shape.m, places, symbols, &mut word);
+        let recovered = hermitian::recover(Q, SERIES, shape.m, &input.broken, &mut message);
         assert_eq!([packed(encoded), packed(recovered)], [baseline::DONE; 2]);
         assert_eq!(shape.word_of(&message), word);
     }
@@ -162,14 +166,16 @@ fn times_beside_recovery(shape: Shape, inputs: &[Input]) -> Times {
                 let Input {
                     places, symbols, ..
                 } = black_box(input);
-                let _ = black_box(hermitian::encode_at(Q, shape.m, places, symbols, &mut word));
+                let _ = black_box(hermitian::encode_at(
+                    Q, SERIES, shape.m, places, symbols, &mut word,
+                ));
                 black_box(&word);
             }
         },
         || {
             for input in inputs {
                 let broken = &black_box(input).broken;
-                let _ = black_box(hermitian::recover(Q, shape.m, broken, &mut message));
+                let _ = black_box(hermitian::recover(Q, SERIES, shape.m, broken, &mut message));
                 black_box(&message);
             }
         },

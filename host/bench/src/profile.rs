@@ -3,43 +3,54 @@
 use std::hint::black_box;
 
 use hermitian::WORK_LENGTH;
+use reference::curve::{Curve, Series};
+use reference::sample::Shape;
 
-use crate::{broken_words, long, messages, places, shape, word_of, wrong_words};
-use crate::{Word, K, M, N, Q, USAGE};
+use crate::{broken_words, fixed, long, messages, places, wrong_words};
+use crate::{Message, Word, K, M, N, Q, SERIES, USAGE};
 
 pub fn run(operation: &str, calls: &str) -> Result<(), String> {
     let Ok(calls) = calls.parse::<usize>() else {
         return Err(USAGE.to_string());
     };
-    match operation.strip_prefix("long-") {
-        Some(operation) => run_long(operation, calls),
-        None => run_short(operation, calls),
+    if let Some(operation) = operation.strip_prefix("long-") {
+        return run_long(operation, calls);
+    }
+    match operation.strip_prefix("series-2-") {
+        Some(operation) => run_short(operation, Series::Two, calls),
+        None => run_short(operation, Series::One, calls),
     }
 }
 
-fn run_short(operation: &str, calls: usize) -> Result<(), String> {
+fn run_short(operation: &str, series: Series, calls: usize) -> Result<(), String> {
+    let shape = Shape::of(Curve::Q_IS_4.in_series(series), M);
+    let series = series.number();
+    let word_of = |message: &Message| fixed(shape.word_of(message));
     let words: Vec<Word> = messages().iter().map(word_of).collect();
     let (mut message, mut word, mut marks) = ([0; K], [0; N], [0; N]);
     if operation == "encode-at" {
-        repeat(calls, &places::inputs(shape()), |input| {
-            hermitian::encode_at(Q, M, &input.places, &input.symbols, &mut word)
+        repeat(calls, &places::inputs(shape), |input| {
+            hermitian::encode_at(Q, series, M, &input.places, &input.symbols, &mut word)
         });
         return Ok(());
     }
     match named(operation, N) {
         Some(("encode", None)) => repeat(calls, &messages(), |input| {
-            hermitian::encode(Q, M, input, &mut word)
+            hermitian::encode(Q, series, M, input, &mut word)
         }),
         Some(("unencode", None)) => repeat(calls, &words, |input| {
-            hermitian::unencode(Q, M, input, &mut message)
+            hermitian::unencode(Q, series, M, input, &mut message)
+        }),
+        Some(("convert", None)) => repeat(calls, &words, |input| {
+            hermitian::convert(Q, series, input, &mut word)
         }),
         Some(("recover", Some(missing))) => {
             repeat(calls, &broken_words(&words, missing), |input| {
-                hermitian::recover(Q, M, input, &mut message)
+                hermitian::recover(Q, series, M, input, &mut message)
             })
         }
         Some(("mend", Some(wrong))) => repeat(calls, &wrong_words(&words, wrong), |input| {
-            hermitian::mend_into(Q, M, input, &mut message, &mut word, &mut marks)
+            hermitian::mend_into(Q, series, M, input, &mut message, &mut word, &mut marks)
         }),
         _ => return Err(USAGE.to_string()),
     }
@@ -52,14 +63,14 @@ fn run_long(operation: &str, calls: usize) -> Result<(), String> {
     let mut work = vec![0; WORK_LENGTH];
     match named(operation, long::N) {
         Some(("encode", None)) => repeat(calls, &long::messages(), |input| {
-            hermitian::encode(long::Q, long::M, input, &mut word)
+            hermitian::encode(long::Q, SERIES, long::M, input, &mut word)
         }),
         Some(("unencode", None)) => repeat(calls, &words, |input| {
-            hermitian::unencode(long::Q, long::M, input, &mut message)
+            hermitian::unencode(long::Q, SERIES, long::M, input, &mut message)
         }),
         Some(("recover", Some(missing))) => {
             repeat(calls, &long::broken_words(&words, missing), |input| {
-                hermitian::recover_long(long::M, input, &mut message, &mut work)
+                hermitian::recover_long(SERIES, long::M, input, &mut message, &mut work)
             })
         }
         _ => return Err(USAGE.to_string()),

@@ -3,7 +3,8 @@
 
 use std::hint::black_box;
 
-use crate::{broken_words, damaged, messages, packed, timing, word_of, Word, K, M, MISSING, Q};
+use crate::{broken_words, damaged, messages, packed, timing, word_of, Word};
+use crate::{K, M, MISSING, Q, SERIES};
 
 const MISSING_COUNTS: [usize; 7] = [0, 1, 4, 10, 20, 26, 32];
 const BUDGETS: [u8; 3] = [255, 8, 1];
@@ -12,6 +13,7 @@ extern "C" {
     /// Opens a job, carries it on with each budget in turn and then with 255.
     fn bench_recover_in_turns(
         q: u8,
+        series: u8,
         m: u16,
         word: *const u8,
         word_length: usize,
@@ -23,11 +25,19 @@ extern "C" {
 }
 
 /// The answer, packed as from C.
-pub fn recover_in_turns(q: u8, m: u16, word: &[u8], budgets: &[u8], message: &mut [u8]) -> u32 {
+pub fn recover_in_turns(
+    q: u8,
+    series: u8,
+    m: u16,
+    word: &[u8],
+    budgets: &[u8],
+    message: &mut [u8],
+) -> u32 {
     // Each pointer comes with the length of its slice, none of which overlap.
     unsafe {
         bench_recover_in_turns(
             q,
+            series,
             m,
             word.as_ptr(),
             word.len(),
@@ -70,6 +80,7 @@ fn print_row(missing: usize, budget: u8, words: &[Word]) {
             for word in words {
                 black_box(recover_in_turns(
                     Q,
+                    SERIES,
                     M,
                     black_box(word),
                     &budgets,
@@ -80,7 +91,13 @@ fn print_row(missing: usize, budget: u8, words: &[Word]) {
         },
         || {
             for word in words {
-                let _ = black_box(hermitian::recover(Q, M, black_box(word), &mut other));
+                let _ = black_box(hermitian::recover(
+                    Q,
+                    SERIES,
+                    M,
+                    black_box(word),
+                    &mut other,
+                ));
                 black_box(&other);
             }
         },
@@ -94,8 +111,11 @@ fn print_row(missing: usize, budget: u8, words: &[Word]) {
 fn assert_same_answers(budget: u8, words: &[Word]) {
     for word in words {
         let (mut ours, mut theirs) = ([99; K], [99; K]);
-        let answer = recover_in_turns(Q, M, word, &all_but_last(word, budget), &mut ours);
-        assert_eq!(answer, packed(hermitian::recover(Q, M, word, &mut theirs)));
+        let answer = recover_in_turns(Q, SERIES, M, word, &all_but_last(word, budget), &mut ours);
+        assert_eq!(
+            answer,
+            packed(hermitian::recover(Q, SERIES, M, word, &mut theirs))
+        );
         assert_eq!(ours, theirs);
     }
 }
@@ -108,27 +128,26 @@ mod tests {
     use reference::outcome::Outcome;
     use reference::sample::{self, Shape};
 
-    /// At every order of both curves: words that are whole, broken or damaged,
+    /// At every order of both curves in both series: words that are whole, broken or damaged,
     /// with budgets of every kind, slices of any content and sometimes of another
     /// length, answer what the second implementation's recovery does.
     #[test]
     fn turns_answer_what_recovery_does() {
         let mut generator = Generator::with_seed(5);
-        for shape in Shape::every_short() {
+        for shape in Shape::every_short_in_both_series() {
+            let (q, series, m) = (shape.q(), shape.series(), shape.m);
             for _ in 0..40 {
                 let word = any_word(&mut generator, shape);
                 let length = any_length(&mut generator, shape.k);
                 let before = generator.bytes(length);
                 let budgets = any_budgets(&mut generator);
                 let (mut ours, mut theirs) = (before.clone(), before);
-                let answer = recover_in_turns(shape.q(), shape.m, &word, &budgets, &mut ours);
-                let outcome = code::recover(shape.q(), shape.m, &word, &mut theirs);
+                let answer = recover_in_turns(q, series, m, &word, &budgets, &mut ours);
+                let outcome = code::recover(q, series, m, &word, &mut theirs);
                 assert_eq!(
                     answer,
                     outcome.packed(),
-                    "q {} m {} {word:?} {budgets:?}",
-                    shape.q(),
-                    shape.m
+                    "q {q} series {series} m {m} {word:?} {budgets:?}"
                 );
                 assert_eq!(ours, theirs);
             }
@@ -138,15 +157,32 @@ mod tests {
     /// Also those that end in the eight bits of a good order.
     #[test]
     fn orders_from_n_on_are_refused() {
-        for shape in Shape::every_short() {
+        for shape in Shape::every_short_in_both_series() {
             for m in sample::numbers_too_high(shape.curve) {
-                let word = vec![0; shape.n];
-                let mut message = vec![99; shape.k];
-                let answer = recover_in_turns(shape.q(), m, &word, &[1], &mut message);
-                assert_eq!(answer, Outcome::ORDER_TOO_HIGH.packed());
-                assert_eq!(message, vec![99; shape.k]);
+                assert_refused(shape, shape.series(), m, Outcome::ORDER_TOO_HIGH);
             }
         }
+    }
+
+    /// With good orders and with bad ones.
+    #[test]
+    fn series_other_than_1_and_2_are_refused() {
+        for shape in Shape::every_short() {
+            for series in (0..=255).filter(|series| ![1, 2].contains(series)) {
+                for m in [shape.m, u16::MAX] {
+                    assert_refused(shape, series, m, Outcome::BAD_SERIES);
+                }
+            }
+        }
+    }
+
+    /// A whole word of zeros, with this series and order.
+    fn assert_refused(shape: Shape, series: u8, m: u16, refusal: Outcome) {
+        let word = vec![0; shape.n];
+        let mut message = vec![99; shape.k];
+        let answer = recover_in_turns(shape.q(), series, m, &word, &[1], &mut message);
+        assert_eq!(answer, refusal.packed());
+        assert_eq!(message, vec![99; shape.k]);
     }
 
     fn any_word(generator: &mut Generator, shape: Shape) -> Vec<u8> {

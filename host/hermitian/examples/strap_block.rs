@@ -4,6 +4,7 @@
 use hermitian::{encode, encode_at, message_length, recover, word_length, Refusal, MISSING};
 
 const Q: u8 = 4;
+const SERIES: u8 = 1;
 const M: u16 = 37;
 
 fn main() -> Result<(), Refusal> {
@@ -11,16 +12,16 @@ fn main() -> Result<(), Refusal> {
     let k = message_length(Q, M).ok_or(Refusal::OrderTooHigh)?;
     let message: Vec<u8> = (0..16).cycle().take(k).collect();
     let mut word = vec![0; n];
-    encode(Q, M, &message, &mut word)?;
+    encode(Q, SERIES, M, &message, &mut word)?;
 
     lose_every(&mut word, 3);
     let mut read = vec![0; k];
-    recover(Q, M, &word, &mut read)?;
+    recover(Q, SERIES, M, &word, &mut read)?;
     assert_eq!(read, message);
     println!("recovered with {} of {n} symbols missing", missing(&word));
 
     lose_every(&mut word, 2);
-    match recover(Q, M, &word, &mut read) {
+    match recover(Q, SERIES, M, &word, &mut read) {
         Ok(()) => println!("recovered with {} of {n} symbols missing", missing(&word)),
         Err(refusal) => println!("with {} missing: {refusal}", missing(&word)),
     }
@@ -31,7 +32,7 @@ fn main() -> Result<(), Refusal> {
 /// columns, the third of odd ones.
 fn send_in_clear(payload: &[u8], word: &mut [u8]) -> Result<(), Refusal> {
     let places: Vec<u16> = (0..16).flat_map(|x| [4 * x, 4 * x + 1 + x % 2]).collect();
-    encode_at(Q, M, &places, payload, word)?;
+    encode_at(Q, SERIES, M, &places, payload, word)?;
     let read = places.iter().map(|&place| &word[usize::from(place)]);
     assert!(read.eq(payload));
     println!("{} symbols read without a decoder", places.len());

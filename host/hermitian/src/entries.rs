@@ -1,9 +1,9 @@
 //! The C entries as `include/hermitian.h` declares them.
 
 /// The shape of [`hermitian_encode`], [`hermitian_unencode`] and
-/// [`hermitian_recover`]: q, m, the input and its length, the output and its length.
-/// The answer is the refusal number times 65536 plus the second number.
-pub type Entry = unsafe extern "C" fn(u8, u16, *const u8, usize, *mut u8, usize) -> u32;
+/// [`hermitian_recover`]: q, the series, m, the input and its length, the output and
+/// its length. The answer is the refusal number times 65536 plus the second number.
+pub type Entry = unsafe extern "C" fn(u8, u8, u16, *const u8, usize, *mut u8, usize) -> u32;
 
 extern "C" {
     /// # Safety
@@ -12,6 +12,7 @@ extern "C" {
     /// beside the length 0; no two of the buffers overlap.
     pub fn hermitian_encode(
         q: u8,
+        series: u8,
         m: u16,
         message: *const u8,
         message_length: usize,
@@ -24,6 +25,7 @@ extern "C" {
     /// As for [`hermitian_encode`], and `places` is aligned for numbers of 16 bits.
     pub fn hermitian_encode_at(
         q: u8,
+        series: u8,
         m: u16,
         places: *const u16,
         count: usize,
@@ -38,6 +40,7 @@ extern "C" {
     /// As for [`hermitian_encode`].
     pub fn hermitian_unencode(
         q: u8,
+        series: u8,
         m: u16,
         word: *const u8,
         word_length: usize,
@@ -50,6 +53,7 @@ extern "C" {
     /// As for [`hermitian_encode`].
     pub fn hermitian_recover(
         q: u8,
+        series: u8,
         m: u16,
         word: *const u8,
         word_length: usize,
@@ -61,6 +65,7 @@ extern "C" {
     ///
     /// As for [`hermitian_encode`].
     pub fn hermitian_recover_long(
+        series: u8,
         m: u16,
         word: *const u8,
         word_length: usize,
@@ -75,6 +80,7 @@ extern "C" {
     /// As for [`hermitian_encode`].
     pub fn hermitian_mend(
         q: u8,
+        series: u8,
         m: u16,
         word: *const u8,
         word_length: usize,
@@ -84,5 +90,17 @@ extern "C" {
         mended_length: usize,
         marks: *mut u8,
         marks_length: usize,
+    ) -> u32;
+
+    /// # Safety
+    ///
+    /// As for [`hermitian_encode`].
+    pub fn hermitian_convert(
+        q: u8,
+        series: u8,
+        word: *const u8,
+        word_length: usize,
+        out: *mut u8,
+        out_length: usize,
     ) -> u32;
 }

@@ -33,33 +33,33 @@ impl Mended {
 ///
 /// let message = [7; 32];
 /// let mut sent = [0; 64];
-/// encode(4, 37, &message, &mut sent)?;
+/// encode(4, 1, 37, &message, &mut sent)?;
 ///
 /// let mut received = sent;
 /// let wrong_places = [0, 3, 8, 15, 24, 35, 48, 61, 62, 63];
 /// for place in wrong_places {
 ///     received[place] ^= 5;
 /// }
-/// let mended = mend(4, 37, &received)?;
+/// let mended = mend(4, 1, 37, &received)?;
 /// assert_eq!(mended.message, message);
 /// assert_eq!(mended.word, sent);
 /// assert_eq!(mended.change_count(), 10);
 /// assert_eq!(mended.changed_places, wrong_places);
 ///
 /// received[1] ^= 5;
-/// assert_eq!(mend(4, 37, &received), Err(Refusal::NoCodewordNear));
+/// assert_eq!(mend(4, 1, 37, &received), Err(Refusal::NoCodewordNear));
 /// # Ok::<(), Refusal>(())
 /// ```
 ///
 /// # Errors
 ///
-/// Refusals 1 to 4, 11 and 12; q = 8 meets 1.
-pub fn mend(q: u8, m: u16, word: &[u8]) -> Result<Mended, Refusal> {
+/// Refusals 1, 17, 2, 12, 3, 4 and 11, checked in this order; q = 8 meets 1.
+pub fn mend(q: u8, series: u8, m: u16, word: &[u8]) -> Result<Mended, Refusal> {
     // A q or m without lengths is refused before the lengths are looked at.
     let n = word_length(q).unwrap_or(0);
     let k = message_length(q, m).unwrap_or(0);
     let (mut message, mut mended, mut marks) = (vec![0; k], vec![0; n], vec![0; n]);
-    mend_into(q, m, word, &mut message, &mut mended, &mut marks)?;
+    mend_into(q, series, m, word, &mut message, &mut mended, &mut marks)?;
     Ok(Mended {
         message,
         word: mended,
@@ -73,9 +73,11 @@ pub fn mend(q: u8, m: u16, word: &[u8]) -> Result<Mended, Refusal> {
 ///
 /// # Errors
 ///
-/// Refusals 1 to 5, 11 and 12. A refused call leaves all slices unchanged.
+/// Refusals 1, 17, 2, 12, 3 to 5 and 11, checked in this order. A refused call
+/// leaves all slices unchanged.
 pub fn mend_into(
     q: u8,
+    series: u8,
     m: u16,
     word: &[u8],
     message: &mut [u8],
@@ -87,6 +89,7 @@ pub fn mend_into(
     let answer = unsafe {
         entries::hermitian_mend(
             q,
+            series,
             m,
             word.as_ptr(),
             word.len(),
@@ -110,19 +113,36 @@ fn marked_places(marks: &[u8]) -> Vec<usize> {
 #[cfg(test)]
 mod tests {
     use super::*;
+    use crate::encode;
 
     #[test]
     fn a_wrong_symbol_of_value_e() {
-        let mended = mend(2, 3, &[1, 2, 2, 1, 0, 0, 1, 2]).unwrap();
+        let mended = mend(2, 1, 3, &[1, 2, 2, 1, 0, 0, 1, 2]).unwrap();
         assert_eq!(mended.message, [1, 2, 3]);
         assert_eq!(mended.word, [1, 2, 2, 1, 3, 0, 1, 2]);
         assert_eq!(mended.changed_places, [4]);
         assert_eq!(mended.change_count(), 1);
     }
 
+    /// x, the message 0 1 of order 4: the word of series 2 has wrong symbols in
+    /// series 1, too many to mend.
+    #[test]
+    fn the_series_counts() -> Result<(), Refusal> {
+        let mut sent = [0; 64];
+        encode(4, 2, 4, &[0, 1], &mut sent)?;
+        let mut received = sent;
+        received[63] ^= 1;
+        let mended = mend(4, 2, 4, &received)?;
+        assert_eq!(mended.message, [0, 1]);
+        assert_eq!(mended.word, sent);
+        assert_eq!(mended.changed_places, [63]);
+        assert_eq!(mend(4, 1, 4, &received), Err(Refusal::NoCodewordNear));
+        Ok(())
+    }
+
     #[test]
     fn a_codeword_is_not_changed() {
-        let mended = mend(4, 57, &[0; 64]).unwrap();
+        let mended = mend(4, 1, 57, &[0; 64]).unwrap();
         assert_eq!(mended.change_count(), 0);
         assert_eq!((mended.message, mended.word), (vec![0; 52], vec![0; 64]));
     }
@@ -130,16 +150,19 @@ mod tests {
     #[test]
     fn every_refusal_is_named() {
         let mut word = [0; 64];
-        assert_eq!(mend(3, 0, &word), Err(Refusal::UnknownCurve));
-        for m in [64, 255, 256, 256 + 37, u16::MAX] {
-            assert_eq!(mend(4, m, &word), Err(Refusal::OrderTooHigh));
+        assert_eq!(mend(3, 0, 64, &word), Err(Refusal::UnknownCurve));
+        for series in [0, 3, 255] {
+            assert_eq!(mend(4, series, 64, &word), Err(Refusal::BadSeries));
         }
-        assert_eq!(mend(4, 58, &word), Err(Refusal::OrderTooHighToMend));
-        assert_eq!(mend(4, 57, &[]), Err(Refusal::WrongInputLength));
+        for m in [64, 255, 256, 256 + 37, u16::MAX] {
+            assert_eq!(mend(4, 1, m, &word), Err(Refusal::OrderTooHigh));
+        }
+        assert_eq!(mend(4, 1, 58, &word), Err(Refusal::OrderTooHighToMend));
+        assert_eq!(mend(4, 1, 57, &[]), Err(Refusal::WrongInputLength));
         word[9] = 1;
-        assert_eq!(mend(4, 57, &word), Err(Refusal::NoCodewordNear));
+        assert_eq!(mend(4, 1, 57, &word), Err(Refusal::NoCodewordNear));
         word[9] = 255;
-        assert_eq!(mend(4, 57, &word), Err(Refusal::NotASymbol { index: 9 }));
+        assert_eq!(mend(4, 1, 57, &word), Err(Refusal::NotASymbol { index: 9 }));
     }
 
     #[test]
@@ -147,7 +170,7 @@ mod tests {
         let lengths_refused = [(2, 8, 8), (3, 7, 8), (3, 8, 9), (0, 0, 0)];
         for (k, n, marks) in lengths_refused {
             let (mut message, mut mended, mut marks) = (vec![9; k], vec![9; n], vec![9; marks]);
-            let answer = mend_into(2, 3, &[0; 8], &mut message, &mut mended, &mut marks);
+            let answer = mend_into(2, 1, 3, &[0; 8], &mut message, &mut mended, &mut marks);
             assert_eq!(answer, Err(Refusal::WrongOutputLength));
             let written = [message, mended, marks].concat();
             assert!(written.iter().all(|&byte| byte == 9));

@@ -3,10 +3,10 @@
 use std::error::Error;
 use std::fmt;
 
-/// The refusals that the six entries can give. The library checks in the order
-/// of the numbers, only 12 and 15 come right after 2 and 14 right after 5, and the
-/// first that applies decides. Numbers 6 and 7 belong to receiving sessions and 13
-/// to the field's inverse, which have no C entry; 8 no longer occurs.
+/// The refusals that the seven entries can give. The library checks in the order
+/// of the numbers, only 17 comes right after 1, 12 and 15 right after 2 and 14 right
+/// after 5, and the first that applies decides. Numbers 6 and 7 belong to receiving
+/// sessions and 13 to the field's inverse, which have no C entry; 8 no longer occurs.
 #[derive(Clone, Copy, Debug, PartialEq, Eq, Hash)]
 pub enum Refusal {
     /// 1: q is none of 2, 4 and 8; to encode at places, to recover and to mend: q is
@@ -36,6 +36,8 @@ pub enum Refusal {
     BadPlaces,
     /// 16: two codewords agree on all the places, whichever symbols come along.
     PlacesLeaveSeveral,
+    /// 17: the series is neither 1 nor 2.
+    BadSeries,
     /// No answer of the rules: what is linked isn't the library that this
     /// wrapper was written for.
     NotInTheRules { answer: u32 },
@@ -46,7 +48,7 @@ impl fmt::Display for Refusal {
         match self {
             Refusal::UnknownCurve => write!(
                 f,
-                "the curve number q must be 2 or 4, or 8 to encode or unencode a long block"
+                "the curve number q must be 2 or 4, or 8 to encode, unencode or convert a long block"
             ),
             Refusal::OrderTooHigh => write!(
                 f,
@@ -87,6 +89,7 @@ impl fmt::Display for Refusal {
             Refusal::PlacesLeaveSeveral => {
                 write!(f, "the places don't fix the codeword at this order")
             }
+            Refusal::BadSeries => write!(f, "the series must be 1 or 2"),
             Refusal::NotInTheRules { answer } => write!(
                 f,
                 "the linked library gave an answer outside the rules: {answer}"
@@ -114,6 +117,7 @@ pub(crate) fn of_answer(answer: u32) -> Result<(), Refusal> {
         14 => Refusal::WrongWorkLength,
         15 => Refusal::BadPlaces,
         16 => Refusal::PlacesLeaveSeveral,
+        17 => Refusal::BadSeries,
         _ => Refusal::NotInTheRules { answer },
     };
     if refusal.answer() == answer {
@@ -139,6 +143,7 @@ impl Refusal {
             Refusal::WrongWorkLength => (14, 0),
             Refusal::BadPlaces => (15, 0),
             Refusal::PlacesLeaveSeveral => (16, 0),
+            Refusal::BadSeries => (17, 0),
             Refusal::NotInTheRules { answer } => return answer,
         };
         number * 65536 + u32::from(second)
@@ -167,6 +172,7 @@ mod tests {
             (917_504, Refusal::WrongWorkLength),
             (983_040, Refusal::BadPlaces),
             (1_048_576, Refusal::PlacesLeaveSeveral),
+            (1_114_112, Refusal::BadSeries),
         ];
         for (answer, refusal) in rows {
             assert_eq!(of_answer(answer), Err(refusal));
@@ -184,8 +190,9 @@ mod tests {
             (14 << 16) + 1,
             (15 << 16) + 1,
             (16 << 16) + 1,
+            (17 << 16) + 3,
         ];
-        let no_refusal = [1, 6 << 16, 13 << 16, 17 << 16, u32::MAX];
+        let no_refusal = [1, 6 << 16, 13 << 16, 18 << 16, u32::MAX];
         for answer in [with_second.as_slice(), &no_refusal].concat() {
             let refusal = Refusal::NotInTheRules { answer };
             assert_eq!(of_answer(answer), Err(refusal));

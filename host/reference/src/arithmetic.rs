@@ -21,7 +21,7 @@ pub fn invert(q: u8, a: u8) -> (Outcome, u8) {
 }
 
 fn field_for(q: u8, operands: &[u8]) -> Result<Field, Outcome> {
-    let field = checks::curve(q)?.field();
+    let field = checks::field(q)?;
     checks::symbols(field, operands)?;
     Ok(field)
 }

@@ -5,6 +5,7 @@ use crate::outcome::Outcome;
 
 pub(crate) const RECORD_LENGTH: usize = 64;
 pub(crate) const CURVE_NUMBER: u8 = 4;
+pub(crate) const SERIES: u8 = 1;
 pub(crate) const ORDER: u16 = 37;
 pub(crate) const MESSAGE_LENGTH: usize = 32;
 
@@ -40,7 +41,7 @@ pub(crate) fn result(outcome: Outcome, message: &[u8]) -> String {
 /// A record as a broken word: what recovery says, and the message.
 pub(crate) fn recovered(record: &[u8]) -> (Outcome, [u8; MESSAGE_LENGTH]) {
     let mut message = [0; MESSAGE_LENGTH];
-    let outcome = code::recover(CURVE_NUMBER, ORDER, record, &mut message);
+    let outcome = code::recover(CURVE_NUMBER, SERIES, ORDER, record, &mut message);
     (outcome, message)
 }
 
@@ -88,7 +89,7 @@ mod tests {
     fn each_symbol_of_a_message_is_one_digit() {
         let message: Vec<u8> = (0..32).map(|index| index % 16).collect();
         let mut word = [0; 64];
-        let outcome = code::encode(4, 37, &message, &mut word);
+        let outcome = code::encode(4, 1, 37, &message, &mut word);
         assert_eq!(outcome, Outcome::ACCEPTED);
         let expected = "0 ok 0123456789abcdef0123456789abcdef\n";
         assert_eq!(blocks(&word), expected);

@@ -17,13 +17,16 @@
 //! | 80 to 151 | the output slice before the call, of `m` the longest one, of `E` the symbols, then zeros; of `y` any 72 bytes, which start with that slice |
 //! | 152 | the high byte of m |
 //! | 153 | the high byte of an arrival's place, of the next place of `y` or of one place of `E` |
-//! | 154 to 159 | zeros |
+//! | 154 | the series with its lowest bit flipped: 0 for series 1, 3 for series 2 |
+//! | 155 to 159 | zeros |
 //!
-//! The ops are these letters:
+//! The ops are these letters. Those that take m take the series too, and so does `C`.
 //!
 //! - `e`, `u`, `r`: encode, unencode and recover, from the input into the
 //!   output slice. The line ends with the slice after the call, two
 //!   hexadecimal digits a byte.
+//! - `C`: the converter (request T-11), from the input, a word of the series, into
+//!   the output slice. The line ends as with `e`.
 //! - `+`, `*`, `i`: sum, product and inverse of the operands. The line ends
 //!   with the symbol.
 //! - `o`: opening with q and m; what it hands back becomes the current
@@ -32,8 +35,8 @@
 //!   places and the first 64 bytes of the output slice as their rounds.
 //! - `a`: an arrival at the current session; what it hands back becomes the
 //!   current session. The lines of `o`, `s` and `a` end with the current
-//!   session's q and m, its places and its rounds, two hexadecimal digits
-//!   each.
+//!   session's q, after it a slash and the series unless that is 1, its m, its
+//!   places and its rounds, two hexadecimal digits each.
 //! - `k`: the current session is asked with the output slice, and the line
 //!   ends as with `e`.
 //! - `m`: mend, from the input into three slices. Each begins as a copy of the
@@ -45,8 +48,8 @@
 //!   hands back becomes the current job. Before the first one it is that of a
 //!   refused opening.
 //! - `J`: opening of a job from the current session; what it hands back becomes
-//!   the current job. The lines of `j` and `J` end with the current job's q and m
-//!   in decimal and its 64 places, those from n on 255, two hexadecimal digits
+//!   the current job. The lines of `j` and `J` end with the current job's q, series
+//!   and m as with `o` and its 64 places, those from n on 255, two hexadecimal digits
 //!   each.
 //! - `c`: the current job is carried on with the budget and the output slice, and
 //!   what the call hands back becomes the current job. The two numbers are 5 and
@@ -78,13 +81,15 @@
 //!   stay as they are, and the line ends as with `e`.
 //!
 //! Until request T-08 orders and places had 8 bits, and the two high bytes were
-//! among the zeros: a record from before it reads as it did.
+//! among the zeros, as the series was until request T-11: a record from before them
+//! reads as it did, and its line is as it was.
 //!
 //! A line starts with the op and the two numbers of the answer (0 and 0 for `s`
 //! and `y`), and its parts are parted by one space each.
 
 use crate::arithmetic;
 use crate::code;
+use crate::conversion;
 use crate::job::{Job, Reply};
 use crate::mend;
 use crate::outcome::Outcome;
@@ -101,12 +106,15 @@ const INPUT_OFFSET: usize = 8;
 const OUTPUT_OFFSET: usize = INPUT_OFFSET + SLICE_ROOM;
 const HIGH_BYTE_OF_ORDER: usize = OUTPUT_OFFSET + SLICE_ROOM;
 const HIGH_BYTE_OF_PLACE: usize = HIGH_BYTE_OF_ORDER + 1;
+const FLIPPED_SERIES: usize = HIGH_BYTE_OF_PLACE + 1;
 
 /// What a record says. Slices longer than `SLICE_ROOM` are cut.
-#[derive(Clone, Debug, Default, PartialEq, Eq)]
+#[derive(Clone, Debug, PartialEq, Eq)]
 pub struct Case {
     pub op: u8,
     pub q: u8,
+    /// 1 where the op takes none.
+    pub series: u8,
     pub m: u16,
     /// Of `a` and `y` only: the place of the arrival, the next place.
     pub place: u16,
@@ -123,12 +131,33 @@ pub struct Case {
     pub beyond: Vec<u8>,
 }
 
+/// Of series 1, and 0 or empty everywhere else.
+impl Default for Case {
+    fn default() -> Case {
+        Case {
+            op: 0,
+            q: 0,
+            series: 1,
+            m: 0,
+            place: 0,
+            high_byte: 0,
+            a: 0,
+            b: 0,
+            round: 0,
+            input: Vec::new(),
+            output: Vec::new(),
+            beyond: Vec::new(),
+        }
+    }
+}
+
 impl Case {
     /// A case of `o`.
-    pub fn of_opening(q: u8, m: u16) -> Case {
+    pub fn of_opening(q: u8, series: u8, m: u16) -> Case {
         Case {
             op: b'o',
             q,
+            series,
             m,
             ..Case::default()
         }
@@ -139,6 +168,7 @@ impl Case {
         Case {
             op: b's',
             q: session.q,
+            series: session.series,
             m: session.m,
             input: session.places.to_vec(),
             output: session.rounds.to_vec(),
@@ -160,13 +190,14 @@ impl Case {
     /// A case of `m`. The slices for message, mended word and marks have these
     /// lengths, and their bytes before the call count up from 128, so that none
     /// of them is a symbol or a mark.
-    pub fn of_mending(q: u8, m: u16, word: &[u8], lengths: [usize; 3]) -> Case {
+    pub fn of_mending(q: u8, series: u8, m: u16, word: &[u8], lengths: [usize; 3]) -> Case {
         let [message, mended, marks] = lengths.map(|length| length.min(SLICE_ROOM));
         let longest = message.max(mended).max(marks);
         let area: Vec<u8> = (128..).take(longest).collect();
         let case = Case {
             op: b'm',
             q,
+            series,
             m,
             a: mended as u8,
             b: marks as u8,
@@ -180,6 +211,7 @@ impl Case {
     /// has this length and holds `fill` everywhere.
     pub fn of_encoding_at(
         q: u8,
+        series: u8,
         m: u16,
         places: &[u16],
         symbols: &[u8],
@@ -193,6 +225,7 @@ impl Case {
         Case {
             op: b'E',
             q,
+            series,
             m,
             high_byte: high_bytes.get(index).copied().unwrap_or(0),
             a: length.min(SLICE_ROOM) as u8,
@@ -248,6 +281,7 @@ impl Case {
         record[5..8].copy_from_slice(&[byte_5, self.b, self.round]);
         record[HIGH_BYTE_OF_ORDER] = order_high;
         record[HIGH_BYTE_OF_PLACE] = byte_153;
+        record[FLIPPED_SERIES] = self.series ^ 1;
         record[INPUT_OFFSET..][..input.len()].copy_from_slice(input);
         record[OUTPUT_OFFSET..][..SLICE_ROOM].copy_from_slice(&area);
         record
@@ -280,6 +314,7 @@ impl Case {
         let case = Case {
             op: record[0],
             q: record[1],
+            series: record[FLIPPED_SERIES] ^ 1,
             m: u16::from_le_bytes([record[2], record[HIGH_BYTE_OF_ORDER]]),
             place,
             high_byte,
@@ -339,12 +374,14 @@ impl Runner {
     }
 
     fn slice_answer(&self, case: &Case) -> (Outcome, String) {
+        let Case { q, series, m, .. } = *case;
         let mut output = case.output.clone();
         let outcome = match case.op {
-            b'e' => code::encode(case.q, case.m, &case.input, &mut output),
-            b'u' => code::unencode(case.q, case.m, &case.input, &mut output),
-            b'r' | b't' => code::recover(case.q, case.m, &case.input, &mut output),
-            b'p' => replay::replay(case.q, case.m, &case.input, &mut output),
+            b'e' => code::encode(q, series, m, &case.input, &mut output),
+            b'u' => code::unencode(q, series, m, &case.input, &mut output),
+            b'r' | b't' => code::recover(q, series, m, &case.input, &mut output),
+            b'C' => conversion::convert(q, series, &case.input, &mut output),
+            b'p' => replay::replay(q, series, m, &case.input, &mut output),
             _ => self.session.ask(&mut output),
         };
         (outcome, hexadecimal(&output))
@@ -352,25 +389,27 @@ impl Runner {
 
     fn session_answer(&mut self, case: &Case) -> (Outcome, String) {
         let (session, outcome) = match case.op {
-            b'o' => Session::open(case.q, case.m),
+            b'o' => Session::open(case.q, case.series, case.m),
             b's' => (raw_session(case), Outcome::ACCEPTED),
             _ => self.session.arrive(case.place, case.b, case.round),
         };
         self.session = session;
-        let Session { q, m, .. } = session;
+        let Session { q, series, m, .. } = session;
+        let numbers = numbers_text(q, series, m);
         let places = hexadecimal(&session.places);
         let rounds = hexadecimal(&session.rounds);
-        (outcome, format!("{q} {m} {places} {rounds}"))
+        (outcome, format!("{numbers} {places} {rounds}"))
     }
 
     fn job_opening_answer(&mut self, case: &Case) -> (Outcome, String) {
         let (job, outcome) = match case.op {
-            b'j' => Job::open(case.q, case.m, &case.input),
+            b'j' => Job::open(case.q, case.series, case.m, &case.input),
             _ => self.session.job(),
         };
         self.job = job;
+        let numbers = numbers_text(job.q(), job.series(), job.m());
         let places = hexadecimal(job.places());
-        (outcome, format!("{} {} {places}", job.q(), job.m()))
+        (outcome, format!("{numbers} {places}"))
     }
 
     fn job_call_answer(&mut self, case: &Case) -> (Outcome, String) {
@@ -402,6 +441,7 @@ fn mend_answer(case: &Case) -> (Outcome, String) {
     let mut marks = case.first_of_area(usize::from(case.b));
     let (outcome, count) = mend::mend(
         case.q,
+        case.series,
         case.m,
         &case.input,
         &mut message,
@@ -413,14 +453,16 @@ fn mend_answer(case: &Case) -> (Outcome, String) {
 }
 
 fn encode_at_answer(case: &Case) -> (Outcome, String) {
+    let Case { q, series, m, .. } = *case;
     let mut word = vec![case.round; slice_length(case.a)];
-    let outcome = systematic::encode_at(case.q, case.m, &case.places(), &case.output, &mut word);
+    let outcome = systematic::encode_at(q, series, m, &case.places(), &case.output, &mut word);
     (outcome, hexadecimal(&word))
 }
 
 fn raw_session(case: &Case) -> Session {
     Session {
         q: case.q,
+        series: case.series,
         m: case.m,
         places: one_byte_a_place(&case.input),
         rounds: one_byte_a_place(&case.output),
@@ -434,6 +476,14 @@ fn one_byte_a_place(slice: &[u8]) -> [u8; PLACE_COUNT] {
         *byte = value;
     }
     bytes
+}
+
+/// Those of a session or job.
+fn numbers_text(q: u8, series: u8, m: u16) -> String {
+    match series {
+        1 => format!("{q} {m}"),
+        _ => format!("{q}/{series} {m}"),
+    }
 }
 
 fn hexadecimal(bytes: &[u8]) -> String {
@@ -495,7 +545,7 @@ mod tests {
 
     #[test]
     fn the_layout_of_a_record_of_the_mender() {
-        let case = Case::of_mending(2, 3, &[6, 7], [2, 0, 4]);
+        let case = Case::of_mending(2, 1, 3, &[6, 7], [2, 0, 4]);
         assert_eq!((case.output.len(), case.beyond.len()), (2, 2));
         let mut expected = [0; 160];
         expected[..10].copy_from_slice(&[109, 2, 3, 2, 2, 0, 4, 0, 6, 7]);
@@ -570,6 +620,20 @@ mod tests {
     }
 
     #[test]
+    fn the_flipped_series_is_at_offset_154() {
+        for op in *b"eurmosjptyEC" {
+            let mut record = [0; 160];
+            record[..2].copy_from_slice(&[op, 4]);
+            for (byte, series) in [(0, 1), (3, 2), (1, 0), (2, 3), (254, 255)] {
+                record[154] = byte;
+                let case = Case::from_record(&record);
+                assert_eq!(case.series, series);
+                assert_eq!(case.to_record(), record);
+            }
+        }
+    }
+
+    #[test]
     fn the_high_byte_of_a_place_is_at_offset_153() {
         let mut record = [0; 160];
         record[..8].copy_from_slice(&[b'a', 0, 0, 0, 0, 7, 2, 3]);
@@ -613,7 +677,7 @@ mod tests {
             (vec![], 0, 0),
         ];
         for (places, index, high) in places {
-            let case = Case::of_encoding_at(2, 259, &places, &[8, 9], 5, 99);
+            let case = Case::of_encoding_at(2, 1, 259, &places, &[8, 9], 5, 99);
             let mut expected = [0; 160];
             expected[..8].copy_from_slice(&[69, 2, 3, places.len() as u8, 2, 5, index, 99]);
             for (byte, place) in expected[8..].iter_mut().zip(&places) {
@@ -632,7 +696,7 @@ mod tests {
                 .into_iter()
                 .eq(low_bytes));
         }
-        let longest = Case::of_encoding_at(2, 3, &[], &[], 73, 99);
+        let longest = Case::of_encoding_at(2, 1, 3, &[], &[], 73, 99);
         assert_eq!(longest.a, 72);
     }
 
@@ -641,7 +705,7 @@ mod tests {
     #[test]
     fn lines_of_encoding_at_places() {
         let line = |places: &[u16], symbols: &[u8], length| {
-            let encoded = Case::of_encoding_at(2, 3, places, symbols, length, 99);
+            let encoded = Case::of_encoding_at(2, 1, 3, places, symbols, length, 99);
             let after = lines(&[encoded, session_case(b'k', 0, 0, &[9]), job_call(1, &[9])]);
             assert_eq!(after[1..], ["k 10 1 09\n", "c 10 1 0 finished 09\n"]);
             after[0].clone()
@@ -670,7 +734,7 @@ mod tests {
     #[test]
     fn lines_of_the_mender() {
         let line = |word: [u8; 8], lengths| {
-            let case = Case::of_mending(2, 3, &word, lengths);
+            let case = Case::of_mending(2, 1, 3, &word, lengths);
             lines(&[case])[0].clone()
         };
         let (one_wrong, two_wrong) = ([1, 2, 0, 1, 3, 0, 1, 2], [1, 2, 0, 0, 3, 0, 1, 2]);
@@ -711,6 +775,98 @@ mod tests {
         assert_eq!(lines(&[case.clone()]), ["r 10 3 101010\n"]);
         case.op = b'u';
         assert_eq!(lines(&[case]), ["u 4 0 101010\n"]);
+    }
+
+    /// The columns of series 2 by the number of each in series 1. At q = 2 these are
+    /// the same numbers.
+    #[test]
+    fn lines_of_the_converter() {
+        let convert = |q, series, input: &[u8], length| {
+            let case = Case {
+                op: b'C',
+                q,
+                series,
+                m: u16::MAX,
+                input: input.to_vec(),
+                output: vec![9; length],
+                ..Case::default()
+            };
+            lines(&[case])[0].clone()
+        };
+        let broken = [1, 2, 3, 0, 255, 255, 1, 255];
+        for series in [1, 2] {
+            let line = convert(2, series, &broken, 8);
+            assert_eq!(line, "C 0 0 01020300ffff01ff\n");
+        }
+        let word: Vec<u8> = (0..64).map(|place| place / 4).collect();
+        let by_powers = [0, 1, 2, 4, 8, 3, 6, 12, 11, 5, 10, 7, 14, 15, 13, 9];
+        let expected = by_powers.map(|x: u8| hexadecimal(&[x; 4])).concat();
+        assert_eq!(convert(4, 1, &word, 64), format!("C 0 0 {expected}\n"));
+        let unchanged = "09".repeat(8);
+        assert_eq!(convert(2, 0, &broken, 8), format!("C 17 0 {unchanged}\n"));
+        assert_eq!(convert(2, 3, &[], 8), format!("C 17 0 {unchanged}\n"));
+        assert_eq!(convert(3, 255, &broken, 0), "C 1 0 \n");
+        assert_eq!(convert(2, 2, &broken[1..], 7), "C 3 0 09090909090909\n");
+        assert_eq!(convert(2, 2, &[254; 8], 0), "C 4 0 \n");
+        assert_eq!(convert(2, 2, &broken, 0), "C 5 0 \n");
+    }
+
+    /// Only a series other than 1 is shown. Column 3 of series 1 is number 5 of series
+    /// 2; a word of order 4 that is x there is x everywhere.
+    #[test]
+    fn lines_of_sessions_and_jobs_of_series_2() {
+        let (missing, no_round) = ("ff".repeat(64), "00".repeat(64));
+        let nothing = format!("{missing} {no_round}");
+        let cases = [
+            Case::of_opening(4, 2, 4),
+            Case::of_arrival(20, 3, 0),
+            session_case(b'k', 0, 0, &[9, 9]),
+            Case::of_arrival(0, 0, 0),
+            session_case(b'k', 0, 0, &[9, 9]),
+            session_case(b'J', 0, 0, &[]),
+            Case::of_opening(4, 3, 4),
+            job_call(9, &[9, 9]),
+        ];
+        let word = |first: &str| {
+            let [before, after] = [19, 43].map(|count| "ff".repeat(count));
+            format!("{first}{before}03{after}")
+        };
+        let expected = [
+            format!("o 0 0 4/2 4 {nothing}\n"),
+            format!("a 0 0 4/2 4 {} {no_round}\n", word("ff")),
+            "k 10 1 0909\n".to_string(),
+            format!("a 0 0 4/2 4 {} {no_round}\n", word("00")),
+            "k 0 0 0001\n".to_string(),
+            format!("J 0 0 4/2 4 {}\n", word("00")),
+            format!("o 17 0 2 0 {nothing}\n"),
+            "c 0 0 2 finished 0001\n".to_string(),
+        ];
+        assert_eq!(lines(&cases), expected);
+    }
+
+    #[test]
+    fn lines_of_a_stored_series_that_is_none() {
+        for series in [0, 3, 255] {
+            let stored = Session {
+                series,
+                ..Session::OF_REFUSED_OPENING
+            };
+            let cases = [
+                Case::of_raw_session(&stored),
+                Case::of_arrival(0, 1, 0),
+                session_case(b'k', 0, 0, &[9]),
+                session_case(b'J', 0, 0, &[]),
+            ];
+            let (missing, no_round) = ("ff".repeat(64), "00".repeat(64));
+            let held = format!("2/{series} 0 {missing} {no_round}");
+            let expected = [
+                format!("s 0 0 {held}\n"),
+                format!("a 17 0 {held}\n"),
+                "k 17 0 09\n".to_string(),
+                format!("J 17 0 2 0 {missing}\n"),
+            ];
+            assert_eq!(lines(&cases), expected);
+        }
     }
 
     #[test]
@@ -779,8 +935,8 @@ mod tests {
         let mut stored = Session::OF_REFUSED_OPENING;
         stored.m = 259;
         let cases = [
-            Case::of_opening(2, 259),
-            Case::of_opening(2, 3),
+            Case::of_opening(2, 1, 259),
+            Case::of_opening(2, 1, 3),
             Case::of_arrival(256, 1, 0),
             Case::of_arrival(65_287, 4, 0),
             Case::of_raw_session(&stored),

@@ -1,6 +1,6 @@
 //! The checks that several calls share, each with its refusal.
 
-use crate::curve::Curve;
+use crate::curve::{Curve, Series};
 use crate::field::Field;
 use crate::outcome::Outcome;
 
@@ -10,19 +10,33 @@ pub const MISSING: u8 = 255;
 /// The bytes of the work slice that recovery of long blocks is lent.
 pub const WORK_LENGTH: usize = 262_144;
 
-/// Refusal 1 where long blocks are taken too.
-pub fn curve(q: u8) -> Result<Curve, Outcome> {
-    Curve::named(q).ok_or(Outcome::UNKNOWN_CURVE)
+/// Refusal 1 of field operations, which name no series.
+pub fn field(q: u8) -> Result<Field, Outcome> {
+    let curve = Curve::named(q).ok_or(Outcome::UNKNOWN_CURVE)?;
+    Ok(curve.field())
 }
 
-/// Refusal 1 where only short blocks are taken.
-pub fn short_curve(q: u8) -> Result<Curve, Outcome> {
-    Curve::short_named(q).ok_or(Outcome::UNKNOWN_CURVE)
+/// Refusals 1 and 17 where long blocks are taken too.
+pub fn curve(q: u8, series: u8) -> Result<Curve, Outcome> {
+    let curve = Curve::named(q).ok_or(Outcome::UNKNOWN_CURVE)?;
+    in_series(curve, series)
 }
 
-/// Refusals 1 and 2 where only short blocks are taken.
-pub fn short_curve_and_order(q: u8, m: u16) -> Result<Curve, Outcome> {
-    let curve = short_curve(q)?;
+/// Refusals 1 and 17 where only short blocks are taken.
+pub fn short_curve(q: u8, series: u8) -> Result<Curve, Outcome> {
+    let curve = Curve::short_named(q).ok_or(Outcome::UNKNOWN_CURVE)?;
+    in_series(curve, series)
+}
+
+/// Refusal 17.
+pub fn in_series(curve: Curve, series: u8) -> Result<Curve, Outcome> {
+    let series = Series::named(series).ok_or(Outcome::BAD_SERIES)?;
+    Ok(curve.in_series(series))
+}
+
+/// Refusals 1, 17 and 2 where only short blocks are taken.
+pub fn short_curve_and_order(q: u8, series: u8, m: u16) -> Result<Curve, Outcome> {
+    let curve = short_curve(q, series)?;
     order(curve, m)?;
     Ok(curve)
 }
@@ -114,11 +128,36 @@ mod tests {
     fn an_unknown_curve_is_refused_before_the_order() {
         for q in (0..=255).filter(|q| ![2, 4].contains(q)) {
             for m in [0, 255, 256, 256 + 37, u16::MAX] {
-                assert_eq!(short_curve_and_order(q, m), Err(Outcome::UNKNOWN_CURVE));
+                for series in [0, 1, 2, 3] {
+                    let refused = Err(Outcome::UNKNOWN_CURVE);
+                    assert_eq!(short_curve_and_order(q, series, m), refused);
+                }
             }
         }
-        assert_eq!(short_curve_and_order(4, 63), Ok(Curve::Q_IS_4));
-        assert_eq!(short_curve_and_order(4, 64), Err(Outcome::ORDER_TOO_HIGH));
+        assert_eq!(short_curve_and_order(4, 1, 63), Ok(Curve::Q_IS_4));
+        let refused = Err(Outcome::ORDER_TOO_HIGH);
+        assert_eq!(short_curve_and_order(4, 1, 64), refused);
+    }
+
+    #[test]
+    fn series_1_and_2_are_accepted_and_others_refused_before_the_order() {
+        for known in Curve::ALL {
+            let q = known.q();
+            for series in 0..=255 {
+                let expected = match series {
+                    1 => Ok(known.in_series(Series::One)),
+                    2 => Ok(known.in_series(Series::Two)),
+                    _ => Err(Outcome::BAD_SERIES),
+                };
+                assert_eq!(curve(q, series), expected);
+                assert_eq!(in_series(known, series), expected);
+                if q != 8 {
+                    assert_eq!(short_curve_and_order(q, series, 0), expected);
+                    let too_high = expected.and(Err(Outcome::ORDER_TOO_HIGH));
+                    assert_eq!(short_curve_and_order(q, series, 512), too_high);
+                }
+            }
+        }
     }
 
     #[test]

@@ -9,25 +9,35 @@ use crate::outcome::Outcome;
 pub use crate::checks::{MISSING, WORK_LENGTH};
 
 /// Writes the word of a message.
-pub fn encode(q: u8, m: u16, message: &[u8], word: &mut [u8]) -> Outcome {
-    Outcome::from(checks::curve(q).and_then(|curve| try_encode(curve, m, message, word)))
+pub fn encode(q: u8, series: u8, m: u16, message: &[u8], word: &mut [u8]) -> Outcome {
+    let curve = checks::curve(q, series);
+    Outcome::from(curve.and_then(|curve| try_encode(curve, m, message, word)))
 }
 
 /// Writes the message of a whole word.
-pub fn unencode(q: u8, m: u16, word: &[u8], message: &mut [u8]) -> Outcome {
-    Outcome::from(checks::curve(q).and_then(|curve| try_unencode(curve, m, word, message)))
+pub fn unencode(q: u8, series: u8, m: u16, word: &[u8], message: &mut [u8]) -> Outcome {
+    let curve = checks::curve(q, series);
+    Outcome::from(curve.and_then(|curve| try_unencode(curve, m, word, message)))
 }
 
 /// Writes the only message that fits a broken word of a short block.
-pub fn recover(q: u8, m: u16, word: &[u8], message: &mut [u8]) -> Outcome {
-    Outcome::from(checks::short_curve(q).and_then(|curve| try_recover(curve, m, word, message)))
+pub fn recover(q: u8, series: u8, m: u16, word: &[u8], message: &mut [u8]) -> Outcome {
+    let curve = checks::short_curve(q, series);
+    Outcome::from(curve.and_then(|curve| try_recover(curve, m, word, message)))
 }
 
 /// Writes the only message that fits a broken word of a long block (request T-09,
 /// q = 8). What the work slice holds afterwards is left open on success and with
 /// the refusals 9 and 10; here it is only looked at for its length.
-pub fn recover_long(m: u16, word: &[u8], message: &mut [u8], work: &mut [u8]) -> Outcome {
-    Outcome::from(try_recover_long(m, word, message, work))
+pub fn recover_long(
+    series: u8,
+    m: u16,
+    word: &[u8],
+    message: &mut [u8],
+    work: &mut [u8],
+) -> Outcome {
+    let curve = checks::in_series(Curve::Q_IS_8, series);
+    Outcome::from(curve.and_then(|curve| try_recover_long(curve, m, word, message, work)))
 }
 
 fn try_encode(curve: Curve, m: u16, message: &[u8], word: &mut [u8]) -> Result<(), Outcome> {
@@ -51,12 +61,13 @@ fn try_recover(curve: Curve, m: u16, word: &[u8], message: &mut [u8]) -> Result<
 }
 
 fn try_recover_long(
+    curve: Curve,
     m: u16,
     word: &[u8],
     message: &mut [u8],
     work: &mut [u8],
 ) -> Result<(), Outcome> {
-    let code = checked(Curve::Q_IS_8, m, word, message, checks::symbols_or_missing)?;
+    let code = checked(curve, m, word, message, checks::symbols_or_missing)?;
     checks::work_length(work)?;
     code.write_only_fitting_message(word, message)
 }
@@ -79,7 +90,7 @@ fn checked(
     Ok(code)
 }
 
-/// The code of one order: its terms are what messages have coefficients for.
+/// The code of one order in one series: its terms are what messages have coefficients for.
 pub(crate) struct Code {
     field: Field,
     pub(crate) points: Vec<Point>,
@@ -163,16 +174,23 @@ mod tests {
     use crate::generator::Generator;
     use crate::sample::{self, Shape};
 
-    type Call = fn(u8, u16, &[u8], &mut [u8]) -> Outcome;
+    type Call = fn(u8, u8, u16, &[u8], &mut [u8]) -> Outcome;
 
     const BAD_CURVES: [u8; 8] = [0, 1, 3, 5, 6, 7, 16, 255];
 
     /// The result of a call, or its refusal after a look that nothing was
     /// written.
-    fn run(call: Call, q: u8, m: u16, input: &[u8], length: usize) -> Result<Vec<u8>, Outcome> {
+    fn run(
+        call: Call,
+        q: u8,
+        series: u8,
+        m: u16,
+        input: &[u8],
+        length: usize,
+    ) -> Result<Vec<u8>, Outcome> {
         let before: Vec<u8> = (0..length).map(|index| 100 + index as u8).collect();
         let mut output = before.clone();
-        match call(q, m, input, &mut output) {
+        match call(q, series, m, input, &mut output) {
             Outcome::ACCEPTED => Ok(output),
             refusal => {
                 assert_eq!(output, before, "a refusal leaves lent memory unchanged");
@@ -182,64 +200,90 @@ mod tests {
     }
 
     fn decode(call: Call, shape: Shape, word: &[u8]) -> Result<Vec<u8>, Outcome> {
-        run(call, shape.q(), shape.m, word, shape.k)
+        run(call, shape.q(), shape.series(), shape.m, word, shape.k)
+    }
+
+    /// A call at q = 2, where both series are the same list.
+    fn run_small(call: Call, m: u16, input: &[u8], length: usize) -> Result<Vec<u8>, Outcome> {
+        let [one, two] = [1, 2].map(|series| run(call, 2, series, m, input, length));
+        assert_eq!(one, two);
+        one
     }
 
     #[test]
     fn value_e() {
         let word = vec![1, 2, 2, 1, 3, 0, 1, 2];
-        assert_eq!(run(encode, 2, 3, &[1, 2, 3], 8), Ok(word.clone()));
-        assert_eq!(run(unencode, 2, 3, &word, 3), Ok(vec![1, 2, 3]));
-        assert_eq!(run(recover, 2, 3, &word, 3), Ok(vec![1, 2, 3]));
+        assert_eq!(run_small(encode, 3, &[1, 2, 3], 8), Ok(word.clone()));
+        assert_eq!(run_small(unencode, 3, &word, 3), Ok(vec![1, 2, 3]));
+        assert_eq!(run_small(recover, 3, &word, 3), Ok(vec![1, 2, 3]));
     }
 
     #[test]
     fn value_f() {
         let word = vec![0, 1, 3, 2, 0, 1, 1, 0];
-        assert_eq!(run(encode, 2, 3, &[0, 1, 1], 8), Ok(word.clone()));
-        assert_eq!(run(unencode, 2, 3, &word, 3), Ok(vec![0, 1, 1]));
+        assert_eq!(run_small(encode, 3, &[0, 1, 1], 8), Ok(word.clone()));
+        assert_eq!(run_small(unencode, 3, &word, 3), Ok(vec![0, 1, 1]));
     }
 
     #[test]
     fn value_g() {
         let word = [0, 0, 255, 255, 255, 255, 255, 255];
         let expected = Err(Outcome::several_messages_fit(1));
-        assert_eq!(run(recover, 2, 2, &word, 2), expected);
+        assert_eq!(run_small(recover, 2, &word, 2), expected);
     }
 
     #[test]
     fn value_h() {
         let mut word = [0, 255, 255, 255, 0, 255, 255, 0];
         let expected = Err(Outcome::several_messages_fit(1));
-        assert_eq!(run(recover, 2, 3, &word, 3), expected);
+        assert_eq!(run_small(recover, 3, &word, 3), expected);
         word[1] = 1;
-        assert_eq!(run(recover, 2, 3, &word, 3), Ok(vec![0, 1, 1]));
+        assert_eq!(run_small(recover, 3, &word, 3), Ok(vec![0, 1, 1]));
     }
 
     #[test]
     fn value_i() {
         let word = [0, 0, 0, 0, 0, 0, 0, 1];
         let expected = Err(Outcome::NO_MESSAGE_FITS);
-        assert_eq!(run(unencode, 2, 7, &word, 7), expected);
-        assert_eq!(run(recover, 2, 7, &word, 7), expected);
+        assert_eq!(run_small(unencode, 7, &word, 7), expected);
+        assert_eq!(run_small(recover, 7, &word, 7), expected);
+    }
+
+    /// x, the message 0 1 of order 4: each column holds its own x.
+    #[test]
+    fn each_series_lists_the_columns_in_its_order() {
+        let columns = [
+            (1, [0, 1, 2, 3, 4, 5, 6, 7, 8, 9, 10, 11, 12, 13, 14, 15]),
+            (2, [0, 1, 2, 4, 8, 3, 6, 12, 11, 5, 10, 7, 14, 15, 13, 9]),
+        ];
+        for (series, columns) in columns {
+            let word: Vec<u8> = columns.into_iter().flat_map(|x| [x; 4]).collect();
+            assert_eq!(run(encode, 4, series, 4, &[0, 1], 64), Ok(word.clone()));
+            for call in [unencode, recover] {
+                assert_eq!(run(call, 4, series, 4, &word, 2), Ok(vec![0, 1]));
+                let none = Err(Outcome::NO_MESSAGE_FITS);
+                assert_eq!(run(call, 4, 3 - series, 4, &word, 2), none);
+            }
+        }
     }
 
     #[test]
     fn the_highest_orders() {
-        for (q, m, n, k) in [(2, 7, 8, 7), (4, 63, 64, 58)] {
-            assert_eq!(run(encode, q, m, &vec![0; k], n), Ok(vec![0; n]));
-            assert_eq!(run(unencode, q, m, &vec![0; n], k), Ok(vec![0; k]));
-            assert_eq!(run(recover, q, m, &vec![0; n], k), Ok(vec![0; k]));
+        let rows = [(2, 7, 8, 7), (4, 63, 64, 58)];
+        for ((q, m, n, k), series) in rows.into_iter().flat_map(|row| [(row, 1), (row, 2)]) {
+            assert_eq!(run(encode, q, series, m, &vec![0; k], n), Ok(vec![0; n]));
+            assert_eq!(run(unencode, q, series, m, &vec![0; n], k), Ok(vec![0; k]));
+            assert_eq!(run(recover, q, series, m, &vec![0; n], k), Ok(vec![0; k]));
             let refused = Err(Outcome::ORDER_TOO_HIGH);
-            assert_eq!(run(encode, q, m + 1, &vec![0; k], n), refused);
-            assert_eq!(run(unencode, q, m + 1, &vec![0; n], k), refused);
-            assert_eq!(run(recover, q, m + 1, &vec![0; n], k), refused);
+            assert_eq!(run(encode, q, series, m + 1, &vec![0; k], n), refused);
+            assert_eq!(run(unencode, q, series, m + 1, &vec![0; n], k), refused);
+            assert_eq!(run(recover, q, series, m + 1, &vec![0; n], k), refused);
         }
     }
 
     #[test]
     fn nothing_arrived_at_every_order() {
-        for shape in Shape::every_short() {
+        for shape in Shape::every_short_in_both_series() {
             let expected = Outcome::several_messages_fit(shape.k as u16);
             let nothing = vec![MISSING; shape.n];
             assert_eq!(decode(recover, shape, &nothing), Err(expected));
@@ -249,7 +293,7 @@ mod tests {
     /// Each call starts with every fault and loses them one by one.
     #[test]
     fn refusals_come_in_the_order_of_the_checks() {
-        for shape in Shape::every_short() {
+        for shape in Shape::every_short_in_both_series() {
             let Shape { n, k, .. } = shape;
             for (call, input, output) in [(encode as Call, k, n), (unencode, n, k), (recover, n, k)]
             {
@@ -259,33 +303,44 @@ mod tests {
     }
 
     fn refusals_in_order(call: Call, shape: Shape, input: usize, output: usize) {
-        let (q, m, bad) = (shape.q(), shape.m, shape.field_size);
-        for curve_number in BAD_CURVES {
+        let (q, series, m, bad) = (shape.q(), shape.series(), shape.m, shape.field_size);
+        for (curve_number, series) in BAD_CURVES
+            .map(|number| [(number, 0), (number, series)])
+            .concat()
+        {
             for order in [255, 256, 256 + m, u16::MAX] {
-                let outcome = run(call, curve_number, order, &vec![bad; input + 1], output + 1);
+                let input = vec![bad; input + 1];
+                let outcome = run(call, curve_number, series, order, &input, output + 1);
                 assert_eq!(outcome, Err(Outcome::UNKNOWN_CURVE));
             }
         }
+        for bad_series in sample::BAD_SERIES {
+            for order in [m, 255, u16::MAX] {
+                let input = vec![bad; input + 1];
+                let outcome = run(call, q, bad_series, order, &input, output + 1);
+                assert_eq!(outcome, Err(Outcome::BAD_SERIES));
+            }
+        }
         for order in (shape.n as u16..=255).chain(sample::numbers_too_high(shape.curve)) {
-            let outcome = run(call, q, order, &vec![bad; input + 1], output + 1);
+            let outcome = run(call, q, series, order, &vec![bad; input + 1], output + 1);
             assert_eq!(outcome, Err(Outcome::ORDER_TOO_HIGH));
         }
         for length in [0, input - 1, input + 1, 72, 255, 256, 300] {
-            let outcome = run(call, q, m, &vec![bad; length], output + 1);
+            let outcome = run(call, q, series, m, &vec![bad; length], output + 1);
             assert_eq!(outcome, Err(Outcome::WRONG_INPUT_LENGTH));
         }
         for index in 0..input {
             let mut values = vec![0; input];
             values[index..].fill(bad);
-            let outcome = run(call, q, m, &values, output + 1);
+            let outcome = run(call, q, series, m, &values, output + 1);
             assert_eq!(outcome, Err(Outcome::value_too_high(index as u16)));
         }
         for length in [0, output - 1, output + 1, 72, 155] {
-            let outcome = run(call, q, m, &vec![0; input], length);
+            let outcome = run(call, q, series, m, &vec![0; input], length);
             assert_eq!(outcome, Err(Outcome::WRONG_OUTPUT_LENGTH));
         }
         assert_eq!(
-            run(call, q, m, &vec![0; input], output),
+            run(call, q, series, m, &vec![0; input], output),
             Ok(vec![0; output])
         );
     }
@@ -296,15 +351,15 @@ mod tests {
         last_is_1[7] = 1;
         let refused = Err(Outcome::WRONG_OUTPUT_LENGTH);
         for length in [0, 6, 8] {
-            assert_eq!(run(unencode, 2, 7, &last_is_1, length), refused);
-            assert_eq!(run(recover, 2, 7, &last_is_1, length), refused);
-            assert_eq!(run(recover, 2, 7, &[255; 8], length), refused);
+            assert_eq!(run_small(unencode, 7, &last_is_1, length), refused);
+            assert_eq!(run_small(recover, 7, &last_is_1, length), refused);
+            assert_eq!(run_small(recover, 7, &[255; 8], length), refused);
         }
     }
 
     #[test]
     fn every_value_of_q_or_more_is_bad_and_255_only_outside_broken_words() {
-        for shape in Shape::every_short().filter(|shape| shape.m % 9 == 1) {
+        for shape in Shape::every_short_in_both_series().filter(|shape| shape.m % 9 == 1) {
             for value in shape.field_size..=255 {
                 let mut word = vec![0; shape.n];
                 word[shape.n - 1] = value;
@@ -318,7 +373,8 @@ mod tests {
                 let mut message = vec![0; shape.k];
                 message[shape.k - 1] = value;
                 let refused = Err(Outcome::value_too_high(shape.k as u16 - 1));
-                let outcome = run(encode, shape.q(), shape.m, &message, shape.n);
+                let (q, series) = (shape.q(), shape.series());
+                let outcome = run(encode, q, series, shape.m, &message, shape.n);
                 assert_eq!(outcome, refused);
             }
         }
@@ -330,15 +386,15 @@ mod tests {
         word[40] = 16;
         word[50] = 254;
         let refused = Err(Outcome::value_too_high(40));
-        assert_eq!(run(recover, 4, 37, &word, 32), refused);
+        assert_eq!(run(recover, 4, 1, 37, &word, 32), refused);
         let refused = Err(Outcome::value_too_high(0));
-        assert_eq!(run(unencode, 4, 37, &word, 32), refused);
+        assert_eq!(run(unencode, 4, 1, 37, &word, 32), refused);
     }
 
     #[test]
     fn words_give_their_message_back_at_every_order() {
         let mut generator = Generator::with_seed(21);
-        for shape in Shape::every_short() {
+        for shape in Shape::every_short_in_both_series() {
             let message = sample::message(&mut generator, shape);
             let word = shape.word_of(&message);
             assert_eq!(decode(unencode, shape, &word), Ok(message.clone()));
@@ -349,7 +405,7 @@ mod tests {
     #[test]
     fn unencoding_is_recovery_of_a_whole_word_and_never_answers_10() {
         let mut generator = Generator::with_seed(22);
-        for shape in Shape::every_short() {
+        for shape in Shape::every_short_in_both_series() {
             let word = sample::codeword(&mut generator, shape);
             let damaged = sample::damaged(&mut generator, shape, &word);
             let arbitrary = sample::symbols(&mut generator, shape, shape.n);
@@ -417,7 +473,7 @@ mod tests {
 
     #[test]
     fn the_constant_coefficient_counts() {
-        for shape in Shape::every_short() {
+        for shape in Shape::every_short_in_both_series() {
             let mut message = vec![0; shape.k];
             message[0] = shape.field_size - 1;
             let constant_word = vec![shape.field_size - 1; shape.n];
@@ -447,7 +503,7 @@ mod tests {
     #[test]
     fn m_plus_1_symbols_are_always_enough() {
         let mut generator = Generator::with_seed(24);
-        for shape in Shape::every_short() {
+        for shape in Shape::every_short_in_both_series() {
             for _ in 0..4 {
                 let message = sample::message(&mut generator, shape);
                 let word = shape.word_of(&message);
@@ -482,7 +538,9 @@ mod tests {
     #[test]
     fn k_symbols_need_not_be_enough() {
         let mut generator = Generator::with_seed(26);
-        for shape in Shape::every_short().filter(|shape| shape.columns_of_order() > 0) {
+        for shape in
+            Shape::every_short_in_both_series().filter(|shape| shape.columns_of_order() > 0)
+        {
             let word = sample::codeword(&mut generator, shape);
             let columns = shape.columns_of_order();
             let broken = sample::with_known_columns(&mut generator, shape, &word, columns);
@@ -496,7 +554,7 @@ mod tests {
     #[test]
     fn any_set_of_whole_columns_gives_the_message() {
         let mut generator = Generator::with_seed(27);
-        for shape in Shape::every_short() {
+        for shape in Shape::every_short_in_both_series() {
             let enough = shape.columns_of_order() + 1;
             for columns in enough..=usize::from(shape.field_size) {
                 let message = sample::message(&mut generator, shape);

@@ -2,14 +2,25 @@
 
 use crate::field::Field;
 
-/// A curve with the fixed numbers of the paper's table. The parts are private,
-/// so that a `Curve` is always one of the three.
+/// A curve with the fixed numbers of the paper's table, and the series of its
+/// list of points. The parts are private, so that a `Curve` is always one of the
+/// three in one of the two series.
 #[derive(Clone, Copy, Debug, PartialEq, Eq)]
 pub struct Curve {
     q: u8,
+    series: Series,
     field: Field,
     point_count: usize,
     genus: usize,
+}
+
+/// How the columns are listed (request T-11).
+#[derive(Clone, Copy, Debug, PartialEq, Eq)]
+pub enum Series {
+    /// By x ascending as a number.
+    One,
+    /// x = 0, then z to the power 0, 1, 2 and so on.
+    Two,
 }
 
 /// A pair (x, y) on the curve.
@@ -26,9 +37,36 @@ pub struct Term {
     pub y_power: usize,
 }
 
+impl Series {
+    pub const BOTH: [Series; 2] = [Series::One, Series::Two];
+
+    /// The series that a number names.
+    pub fn named(number: u8) -> Option<Series> {
+        Series::BOTH
+            .into_iter()
+            .find(|series| series.number() == number)
+    }
+
+    pub fn number(self) -> u8 {
+        match self {
+            Series::One => 1,
+            Series::Two => 2,
+        }
+    }
+
+    pub fn other(self) -> Series {
+        match self {
+            Series::One => Series::Two,
+            Series::Two => Series::One,
+        }
+    }
+}
+
+/// The constants are those of series 1.
 impl Curve {
     pub const Q_IS_2: Curve = Curve {
         q: 2,
+        series: Series::One,
         field: Field::OF_4,
         point_count: 8,
         genus: 1,
@@ -36,6 +74,7 @@ impl Curve {
 
     pub const Q_IS_4: Curve = Curve {
         q: 4,
+        series: Series::One,
         field: Field::OF_16,
         point_count: 64,
         genus: 6,
@@ -44,6 +83,7 @@ impl Curve {
     /// Request T-09: the curve of long blocks.
     pub const Q_IS_8: Curve = Curve {
         q: 8,
+        series: Series::One,
         field: Field::OF_64,
         point_count: 512,
         genus: 28,
@@ -54,18 +94,32 @@ impl Curve {
 
     pub const ALL: [Curve; 3] = [Curve::Q_IS_2, Curve::Q_IS_4, Curve::Q_IS_8];
 
-    /// The curve that q names.
+    /// The curve that q names, in series 1.
     pub fn named(q: u8) -> Option<Curve> {
         Curve::ALL.into_iter().find(|curve| curve.q == q)
     }
 
-    /// The curve of short blocks that q names.
+    /// The curve of short blocks that q names, in series 1.
     pub fn short_named(q: u8) -> Option<Curve> {
         Curve::SHORT.into_iter().find(|curve| curve.q == q)
     }
 
+    /// The same curve with the points listed by this series.
+    pub fn in_series(self, series: Series) -> Curve {
+        Curve { series, ..self }
+    }
+
+    /// The same curve in either series.
+    pub fn in_both_series(self) -> [Curve; 2] {
+        Series::BOTH.map(|series| self.in_series(series))
+    }
+
     pub fn q(self) -> u8 {
         self.q
+    }
+
+    pub fn series(self) -> Series {
+        self.series
     }
 
     pub fn field(self) -> Field {
@@ -96,12 +150,24 @@ impl Curve {
         Some(rest / 2)
     }
 
-    /// The points by x ascending, then y ascending; the index is the place.
+    /// Every x, in the order of the series.
+    pub fn columns(self) -> Vec<u8> {
+        let size = self.field.size();
+        match self.series {
+            Series::One => (0..size).collect(),
+            Series::Two => {
+                let powers = self.field.powers(Field::Z, usize::from(size) - 2);
+                [vec![0], powers].concat()
+            }
+        }
+    }
+
+    /// The points column by column, then y ascending; the index is the place.
     pub fn points(self) -> Vec<Point> {
         let q = usize::from(self.q);
-        let symbols = 0..self.field.size();
         let left_side = |y| self.field.sum(self.field.power(y, q), y);
-        let left_sides: Vec<(u8, u8)> = symbols.clone().map(|y| (y, left_side(y))).collect();
+        let symbols = 0..self.field.size();
+        let left_sides: Vec<(u8, u8)> = symbols.map(|y| (y, left_side(y))).collect();
         let column = |x| {
             let right_side = self.field.power(x, q + 1);
             let on_the_curve = left_sides
@@ -109,7 +175,7 @@ impl Curve {
                 .filter(move |(_, left)| *left == right_side);
             on_the_curve.map(move |&(y, _)| Point { x, y })
         };
-        symbols.flat_map(column).collect()
+        self.columns().into_iter().flat_map(column).collect()
     }
 
     /// The terms of weight up to the order m, by ascending weight.
@@ -173,6 +239,16 @@ mod tests {
     }
 
     #[test]
+    fn only_1_and_2_name_a_series() {
+        for number in 0..=255 {
+            let named = [1, 2].contains(&number).then_some(number);
+            assert_eq!(Series::named(number).map(Series::number), named);
+        }
+        assert_eq!(Series::One.other(), Series::Two);
+        assert_eq!(Series::Two.other(), Series::One);
+    }
+
+    #[test]
     fn value_c_points_of_q_2() {
         let expected = [
             (0, 0),
@@ -184,7 +260,9 @@ mod tests {
             (3, 2),
             (3, 3),
         ];
-        assert_eq!(points_as_pairs(Curve::Q_IS_2), expected);
+        for curve in Curve::Q_IS_2.in_both_series() {
+            assert_eq!(points_as_pairs(curve), expected);
+        }
     }
 
     #[test]
@@ -199,7 +277,51 @@ mod tests {
             (1, 4),
             (1, 5),
         ];
-        assert_eq!(points_as_pairs(Curve::Q_IS_4)[..8], expected);
+        for curve in Curve::Q_IS_4.in_both_series() {
+            assert_eq!(points_as_pairs(curve)[..8], expected);
+        }
+    }
+
+    /// z^4 = z + 1 is 3, z^5 is 6, and so on.
+    const POWERS_OF_Q_4: [u8; 15] = [1, 2, 4, 8, 3, 6, 12, 11, 5, 10, 7, 14, 15, 13, 9];
+
+    /// z^6 = z + 1 is 3, z^7 is 6, and so on.
+    const POWERS_OF_Q_8: [u8; 63] = [
+        1, 2, 4, 8, 16, 32, 3, 6, 12, 24, 48, 35, 5, 10, 20, 40, 19, 38, 15, 30, 60, 59, 53, 41,
+        17, 34, 7, 14, 28, 56, 51, 37, 9, 18, 36, 11, 22, 44, 27, 54, 47, 29, 58, 55, 45, 25, 50,
+        39, 13, 26, 52, 43, 21, 42, 23, 46, 31, 62, 63, 61, 57, 49, 33,
+    ];
+
+    #[test]
+    fn the_columns_of_both_series() {
+        let lists: [(Curve, &[u8]); 3] = [
+            (Curve::Q_IS_2, &[1, 2, 3]),
+            (Curve::Q_IS_4, &POWERS_OF_Q_4),
+            (Curve::Q_IS_8, &POWERS_OF_Q_8),
+        ];
+        for (curve, powers) in lists {
+            let [one, two] = curve.in_both_series().map(Curve::columns);
+            assert!(one.iter().copied().eq(0..curve.field().size()));
+            assert_eq!(two[0], 0);
+            assert_eq!(two[1..], *powers);
+            let mut sorted = two;
+            sorted.sort_unstable();
+            assert_eq!(sorted, one, "each column once");
+        }
+    }
+
+    #[test]
+    fn some_points_of_series_2() {
+        let [_, curve] = Curve::Q_IS_4.in_both_series();
+        let points = points_as_pairs(curve);
+        assert_eq!(points[12..16], [(4, 8), (4, 9), (4, 14), (4, 15)]);
+        assert_eq!(points[60..], [(9, 8), (9, 9), (9, 14), (9, 15)]);
+        let [_, curve] = Curve::Q_IS_8.in_both_series();
+        let points = points_as_pairs(curve);
+        let column_4 = [32, 33, 46, 47, 54, 55, 56, 57].map(|y| (4, y));
+        assert_eq!(points[24..32], column_4);
+        let column_9 = [38, 39, 40, 41, 48, 49, 62, 63].map(|y| (9, y));
+        assert_eq!(points[264..272], column_9);
     }
 
     /// Column 0 is the field of 8 elements in that of 64: the powers of z^9 = 24.
@@ -231,17 +353,17 @@ mod tests {
         assert_eq!(on_the_curve, 512);
     }
 
+    /// In series 1 column c is x = c.
     #[test]
-    fn column_x_is_the_q_places_from_q_times_x() {
-        for curve in Curve::ALL {
+    fn column_c_is_the_q_places_from_q_times_c() {
+        for curve in Curve::ALL.into_iter().flat_map(Curve::in_both_series) {
             let points = curve.points();
             assert_eq!(points.len(), curve.point_count());
-            for (place, point) in points.iter().enumerate() {
-                assert_eq!(usize::from(point.x), place / usize::from(curve.q()));
+            let columns = points.chunks(usize::from(curve.q()));
+            for (x, column) in curve.columns().into_iter().zip(columns) {
+                assert!(column.iter().all(|point| point.x == x));
+                assert!(column.windows(2).all(|pair| pair[0].y < pair[1].y));
             }
-            assert!(points
-                .windows(2)
-                .all(|pair| (pair[0].x, pair[0].y) < (pair[1].x, pair[1].y)));
         }
     }
 

@@ -14,6 +14,9 @@ pub struct Field {
 }
 
 impl Field {
+    /// The symbol whose only coefficient is that of z to the power 1.
+    pub const Z: u8 = 2;
+
     /// Q = 4, with z^2 + z + 1 = 0.
     pub const OF_4: Field = Field {
         degree: 2,

@@ -65,15 +65,15 @@ impl Job {
     };
 
     /// From what recovery takes, without the slice.
-    pub fn open(q: u8, m: u16, word: &[u8]) -> (Job, Outcome) {
-        match Job::try_open(q, m, word) {
+    pub fn open(q: u8, series: u8, m: u16, word: &[u8]) -> (Job, Outcome) {
+        match Job::try_open(q, series, m, word) {
             Ok(job) => (job, Outcome::ACCEPTED),
             Err(refusal) => (Job::OF_REFUSED_OPENING, refusal),
         }
     }
 
-    fn try_open(q: u8, m: u16, word: &[u8]) -> Result<Job, Outcome> {
-        let curve = checks::short_curve_and_order(q, m)?;
+    fn try_open(q: u8, series: u8, m: u16, word: &[u8]) -> Result<Job, Outcome> {
+        let curve = checks::short_curve_and_order(q, series, m)?;
         checks::input_length(word, curve.point_count())?;
         checks::symbols_or_missing(curve.field(), word)?;
         let mut places = [MISSING; PLACE_COUNT];
@@ -88,6 +88,10 @@ impl Job {
 
     pub fn q(&self) -> u8 {
         self.curve.q()
+    }
+
+    pub fn series(&self) -> u8 {
+        self.curve.series().number()
     }
 
     pub fn m(&self) -> u16 {
@@ -125,7 +129,8 @@ impl Job {
             ..self
         };
         let mut written = message.to_vec();
-        let outcome = code::recover(self.q(), self.m, &after.word_so_far(), &mut written);
+        let word = after.word_so_far();
+        let outcome = code::recover(self.q(), self.series(), self.m, &word, &mut written);
         if outcome == Outcome::WRONG_OUTPUT_LENGTH {
             return (self, 0, Reply::Refused);
         }
@@ -154,10 +159,14 @@ mod tests {
 
     const BUDGETS: [u8; 8] = [0, 1, 2, 3, 7, 20, 64, 255];
 
-    fn opened(q: u8, m: u16, word: &[u8]) -> Job {
-        let (job, outcome) = Job::open(q, m, word);
+    fn opened(q: u8, series: u8, m: u16, word: &[u8]) -> Job {
+        let (job, outcome) = Job::open(q, series, m, word);
         assert_eq!(outcome, Outcome::ACCEPTED);
         job
+    }
+
+    fn opened_shaped(shape: Shape, word: &[u8]) -> Job {
+        opened(shape.q(), shape.series(), shape.m, word)
     }
 
     fn several(r: u16) -> Reply {
@@ -187,7 +196,7 @@ mod tests {
     /// polynomial in x alone.
     #[test]
     fn value_g() {
-        let job = opened(2, 2, &[0, 0, 255, 255, 255, 255, 255, 255]);
+        let job = opened(2, 1, 2, &[0, 0, 255, 255, 255, 255, 255, 255]);
         let one_by_one = [
             (0, 0, Reply::Leaves(2)),
             (1, 1, Reply::Leaves(1)),
@@ -210,9 +219,9 @@ mod tests {
             (1, 1, Reply::Leaves(1)),
             (1, 1, several(1)),
         ];
-        assert_replies(opened(2, 3, &word), &[], &three_zeros);
+        assert_replies(opened(2, 1, 3, &word), &[], &three_zeros);
         word[1] = 1;
-        let job = opened(2, 3, &word);
+        let job = opened(2, 1, 3, &word);
         let one_by_one = [
             (0, 0, Reply::Leaves(3)),
             (1, 1, Reply::Leaves(2)),
@@ -232,7 +241,7 @@ mod tests {
     /// place 7 contradicts them only at the end.
     #[test]
     fn value_h_with_a_wrong_symbol() {
-        let early = opened(2, 3, &[0, 1, 255, 255, 0, 2, 255, 0]);
+        let early = opened(2, 1, 3, &[0, 1, 255, 255, 0, 2, 255, 0]);
         let calls = [
             (3, 3, Reply::Leaves(0)),
             (1, 1, Reply::NoneFits),
@@ -241,13 +250,13 @@ mod tests {
             (1, 0, NONE),
         ];
         assert_replies(early, &[], &calls);
-        let late = opened(2, 3, &[0, 1, 255, 255, 0, 255, 255, 1]);
+        let late = opened(2, 1, 3, &[0, 1, 255, 255, 0, 255, 255, 1]);
         assert_replies(late, &[], &[(3, 3, Reply::Leaves(0)), (1, 1, NONE)]);
     }
 
     #[test]
     fn value_i() {
-        let job = opened(2, 7, &[0, 0, 0, 0, 0, 0, 0, 1]);
+        let job = opened(2, 1, 7, &[0, 0, 0, 0, 0, 0, 0, 1]);
         let calls = [
             (6, 6, Reply::Leaves(1)),
             (1, 1, Reply::Leaves(0)),
@@ -260,8 +269,8 @@ mod tests {
 
     #[test]
     fn nothing_arrived_is_finished_by_any_call() {
-        for shape in Shape::every_short() {
-            let job = opened(shape.q(), shape.m, &vec![MISSING; shape.n]);
+        for shape in Shape::every_short_in_both_series() {
+            let job = opened_shaped(shape, &vec![MISSING; shape.n]);
             let expected = several(shape.k as u16);
             for budget in BUDGETS {
                 assert_replies(job, &[], &[(budget, 0, expected), (1, 0, expected)]);
@@ -272,57 +281,66 @@ mod tests {
     #[test]
     fn the_job_of_a_refused_opening() {
         let job = Job::OF_REFUSED_OPENING;
-        assert_eq!(job, opened(2, 0, &[MISSING; 8]));
-        assert_eq!((job.q(), job.m(), job.places()), (2, 0, &[255; 64]));
+        assert_eq!(job, opened(2, 1, 0, &[MISSING; 8]));
+        assert_eq!((job.q(), job.series(), job.m()), (2, 1, 0));
+        assert_eq!(job.places(), &[255; 64]);
         assert_replies(job, &[], &[(0, 0, several(1)), (255, 0, several(1))]);
     }
 
-    fn assert_refused_opening(q: u8, m: u16, word: &[u8], expected: Outcome) {
-        assert_eq!(Job::open(q, m, word), (Job::OF_REFUSED_OPENING, expected));
+    fn assert_refused_opening(q: u8, series: u8, m: u16, word: &[u8], expected: Outcome) {
+        let refused = (Job::OF_REFUSED_OPENING, expected);
+        assert_eq!(Job::open(q, series, m, word), refused);
         // Recovery's own refusal, which comes before a look at its slice.
-        assert_eq!(code::recover(q, m, word, &mut [0; 99]), expected);
+        assert_eq!(code::recover(q, series, m, word, &mut [0; 99]), expected);
     }
 
     /// The opening starts with every fault and loses them one by one.
     #[test]
     fn openings_are_refused_in_the_order_of_the_checks() {
-        for shape in Shape::every_short() {
-            let (q, m, n) = (shape.q(), shape.m, shape.n);
+        for shape in Shape::every_short_in_both_series() {
+            let (q, series, m, n) = (shape.q(), shape.series(), shape.m, shape.n);
             let bad = vec![shape.field_size; n + 1];
             for curve_number in [0, 1, 3, 5, 8, 255] {
-                for order in [255, 256 + m, u16::MAX] {
-                    assert_refused_opening(curve_number, order, &bad, Outcome::UNKNOWN_CURVE);
+                for (series, order) in [(0, 255), (series, 256 + m), (3, u16::MAX)] {
+                    let expected = Outcome::UNKNOWN_CURVE;
+                    assert_refused_opening(curve_number, series, order, &bad, expected);
+                }
+            }
+            for bad_series in sample::BAD_SERIES {
+                for order in [m, u16::MAX] {
+                    assert_refused_opening(q, bad_series, order, &bad, Outcome::BAD_SERIES);
                 }
             }
             for order in sample::numbers_too_high(shape.curve) {
-                assert_refused_opening(q, order, &bad, Outcome::ORDER_TOO_HIGH);
+                assert_refused_opening(q, series, order, &bad, Outcome::ORDER_TOO_HIGH);
             }
             for length in [0, 1, n - 1, n + 1] {
                 let word = &bad[..length];
-                assert_refused_opening(q, m, word, Outcome::WRONG_INPUT_LENGTH);
+                assert_refused_opening(q, series, m, word, Outcome::WRONG_INPUT_LENGTH);
             }
             for value in [shape.field_size, 128, 254] {
                 for index in 0..n {
                     let mut word = vec![MISSING; n];
                     word[index..].fill(value);
                     let expected = Outcome::value_too_high(index as u16);
-                    assert_refused_opening(q, m, &word, expected);
+                    assert_refused_opening(q, series, m, &word, expected);
                 }
             }
-            opened(q, m, &vec![0; n]);
+            opened(q, series, m, &vec![0; n]);
         }
     }
 
     #[test]
     fn a_job_keeps_its_word() {
         let mut generator = Generator::with_seed(71);
-        for shape in Shape::every_short() {
+        for shape in Shape::every_short_in_both_series() {
             let word = arbitrary_word(&mut generator, shape);
-            let mut job = opened(shape.q(), shape.m, &word);
+            let mut job = opened_shaped(shape, &word);
             assert_eq!(job.message_length(), shape.k);
             assert_eq!(usize::from(job.arrived_count()), sample::known_count(&word));
             for _ in 0..3 {
                 assert_eq!((job.q(), job.m()), (shape.q(), shape.m));
+                assert_eq!(job.series(), shape.series());
                 assert_eq!(job.places()[..shape.n], word);
                 assert_eq!(job.places()[shape.n..], vec![255; 64 - shape.n]);
                 job = job.carry_on(20, &mut vec![0; shape.k]).0;
@@ -350,13 +368,14 @@ mod tests {
     #[test]
     fn finished_jobs_say_what_recovery_in_one_go_says() {
         let mut generator = Generator::with_seed(72);
-        for shape in Shape::every_short().flat_map(|shape| [shape; 4]) {
+        for shape in Shape::every_short_in_both_series().flat_map(|shape| [shape; 4]) {
             let word = arbitrary_word(&mut generator, shape);
             let slice = generator.bytes(shape.k);
             let mut message = slice.clone();
-            let outcome = code::recover(shape.q(), shape.m, &word, &mut message);
+            let (q, series) = (shape.q(), shape.series());
+            let outcome = code::recover(q, series, shape.m, &word, &mut message);
             let expected = (Reply::Finished(outcome), message);
-            let job = opened(shape.q(), shape.m, &word);
+            let job = opened_shaped(shape, &word);
             let (job, result) = carried_to_the_end(&mut generator, shape, job, &slice);
             assert_eq!(result, expected);
             for budget in BUDGETS {
@@ -410,9 +429,9 @@ mod tests {
     #[test]
     fn two_calls_bring_in_what_one_of_both_budgets_does() {
         let mut generator = Generator::with_seed(73);
-        for shape in Shape::every_short() {
+        for shape in Shape::every_short_in_both_series() {
             let word = arbitrary_word(&mut generator, shape);
-            let job = opened(shape.q(), shape.m, &word);
+            let job = opened_shaped(shape, &word);
             let [first, second] = [(); 2].map(|()| generator.byte_from(0, 40));
             let mut message = vec![99; shape.k];
             let (after, one, _) = job.carry_on(first, &mut message);
@@ -440,7 +459,7 @@ mod tests {
     /// One symbol a call.
     fn agrees_with_trial(shape: Shape, words: &[(Vec<u8>, Vec<u8>)], broken: &[u8]) {
         let arrived: Vec<usize> = (0..shape.n).filter(|&p| broken[p] != MISSING).collect();
-        let mut job = opened(shape.q(), shape.m, broken);
+        let mut job = opened_shaped(shape, broken);
         for count in 0..arrived.len() {
             let so_far = &arrived[..count];
             let fits = |word: &[u8]| so_far.iter().all(|&place| word[place] == broken[place]);

@@ -6,7 +6,7 @@ mod unopened;
 
 use crate::case_record::{Case, SLICE_ROOM};
 use crate::code::MISSING;
-use crate::curve::Curve;
+use crate::curve::{Curve, Series};
 use crate::generator::Generator;
 use crate::job::Job;
 use crate::sample::{self, Shape};
@@ -33,20 +33,21 @@ const ORDERS_ONE_BY_ONE: [u16; 3] = [11, 37, 63];
 
 /// The cases of all orders, then refused openings that no order below n has,
 /// sessions whose symbols arrive one by one, and at last jobs that no opening gave.
-pub fn job_cases() -> Vec<Case> {
+pub fn job_cases(series: Series) -> Vec<Case> {
     let mut builder = Builder {
+        series,
         generator: Generator::with_seed(SEED),
         session: Session::OF_REFUSED_OPENING,
         cases: Vec::new(),
     };
     builder.before_any_opening();
-    for shape in Shape::every_short() {
+    for shape in Shape::every_short_in(series) {
         builder.jobs_of_words(shape);
         builder.refused_words(shape);
         builder.jobs_of_stored_sessions(shape);
     }
     for m in ORDERS_ONE_BY_ONE {
-        builder.one_by_one(Shape::of(Curve::Q_IS_4, m));
+        builder.one_by_one(Shape::of(Curve::Q_IS_4.in_series(series), m));
     }
     builder.bad_curves_and_orders();
     builder.bad_stored_numbers();
@@ -65,6 +66,7 @@ fn pattern(number: usize) -> &'static [u8] {
 }
 
 struct Builder {
+    series: Series,
     generator: Generator,
     /// The session that the cases so far make the current one.
     session: Session,
@@ -75,14 +77,16 @@ struct Builder {
 impl Builder {
     /// Gives the job that the opening hands back.
     fn open(&mut self, q: u8, m: u16, word: &[u8]) -> Job {
+        let series = self.series.number();
         self.cases.push(Case {
             op: b'j',
             q,
+            series,
             m,
             input: word.to_vec(),
             ..Case::default()
         });
-        Job::open(q, m, word).0
+        Job::open(q, series, m, word).0
     }
 
     /// The slice holds arbitrary bytes before the call, so that it is seen if
@@ -151,7 +155,7 @@ impl Builder {
         self.all_but_one(shape);
         for (number, word) in self.words(shape).into_iter().enumerate() {
             let number = number + usize::from(shape.m);
-            if shape.curve == Curve::Q_IS_2 {
+            if shape.q() == 2 {
                 self.whole_run(shape, &word, ONE_BY_ONE);
                 self.whole_run(shape, &word, pattern(number));
             } else if number % 2 == 0 {
@@ -249,24 +253,27 @@ mod tests {
 
     #[test]
     fn the_cases_are_reproducible_and_fit_their_records() {
-        let cases = job_cases();
-        assert_eq!(cases, job_cases());
-        assert!((6000..=9000).contains(&cases.len()), "{}", cases.len());
-        for case in &cases {
-            let record: [u8; RECORD_LENGTH] = case.to_record();
-            assert_eq!(&Case::from_record(&record), case);
-            assert!(b"jJcyosa".contains(&case.op));
+        for series in Series::BOTH {
+            let cases = job_cases(series);
+            assert_eq!(cases, job_cases(series));
+            assert!((6000..=9000).contains(&cases.len()), "{}", cases.len());
+            for case in &cases {
+                let record: [u8; RECORD_LENGTH] = case.to_record();
+                assert_eq!(&Case::from_record(&record), case);
+                assert!(b"jJcyosa".contains(&case.op));
+            }
         }
     }
 
-    /// Each call's q and m, its budget and what it says.
-    fn calls() -> Vec<((u8, u16), u8, Answer)> {
+    /// Each call's q, series and m, its budget and what it says.
+    fn calls() -> Vec<((u8, u8, u16), u8, Answer)> {
         let mut runner = Runner::default();
         let mut calls = Vec::new();
-        for case in job_cases() {
+        for case in Series::BOTH.into_iter().flat_map(job_cases) {
             let line = runner.run(&case);
             if case.op == b'c' {
-                let order = (runner.job().q(), runner.job().m());
+                let job = runner.job();
+                let order = (job.q(), job.series(), job.m());
                 calls.push((order, case.a, answer(&line)));
             }
         }
@@ -284,8 +291,8 @@ mod tests {
     #[test]
     fn every_answer_of_every_order_occurs() {
         let calls = calls();
-        for shape in Shape::every_short() {
-            let order = (shape.q(), shape.m);
+        for shape in Shape::every_short_in_both_series() {
+            let order = shape.numbers();
             let of_order = calls.iter().filter(|call| call.0 == order);
             let found: BTreeSet<Answer> = of_order.map(|call| call.2.clone()).collect();
             let mut expected = BTreeSet::from([
@@ -297,7 +304,7 @@ mod tests {
                 ("finished", 9, true),
                 ("finished", 10, false),
             ]);
-            if order == (2, 7) {
+            if (shape.q(), shape.m) == (2, 7) {
                 expected.remove(&("working", 9, true));
             }
             let expected = expected.into_iter();
@@ -316,10 +323,10 @@ mod tests {
             found.map(|call| call.0).collect::<BTreeSet<_>>().len()
         };
         for budget in [0, 1, 7] {
-            assert!(orders(budget, "working") >= 40, "{budget}");
+            assert!(orders(budget, "working") >= 80, "{budget}");
         }
         for budget in [0, 7, 64, 255] {
-            assert!(orders(budget, "finished") >= 40, "{budget}");
+            assert!(orders(budget, "finished") >= 80, "{budget}");
         }
     }
 }

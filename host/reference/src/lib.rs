@@ -7,7 +7,8 @@
 //! by recovery from the symbols brought in so far, anew at each call, and mending
 //! by trying every message, or on the larger curve by Gauss elimination and
 //! recovery. The encoder that puts symbols at chosen places inverts the matrix of
-//! the terms' values there. Long blocks, q = 8, go the same way as short ones.
+//! the terms' values there, and the converter looks up each point. Long blocks, q = 8,
+//! go the same way as short ones.
 
 #![forbid(unsafe_code)]
 
@@ -15,7 +16,10 @@ pub mod arithmetic;
 pub mod blocks;
 pub mod case_record;
 mod checks;
+pub mod checksum;
 pub mod code;
+pub mod conversion;
+pub mod conversion_sample;
 pub mod curve;
 pub mod field;
 pub mod file_pair;
@@ -34,6 +38,7 @@ pub mod progress;
 pub mod record_sample;
 pub mod replay;
 pub mod sample;
+pub mod series_sample;
 pub mod session;
 pub mod sixteen_bit_sample;
 pub mod systematic;

@@ -12,7 +12,8 @@
 //! | 6, 7 | the length of the output slice, low byte first, 0 to 560 |
 //! | 8 | the length of the work slice: 0 for the right one, 262,144 bytes, 1 for a byte less, 2 for a byte more, 3 for none |
 //! | 9 | every byte of the work slice before the call |
-//! | 10 to 15 | zeros |
+//! | 10 | the series with its lowest bit flipped: 0 for series 1, 3 for series 2 |
+//! | 11 to 15 | zeros |
 //! | 16 to 575 | the input, then zeros |
 //! | 576 to 1135 | the output slice before the call, then zeros |
 //!
@@ -21,6 +22,8 @@
 //! - `e`, `u`, `r`: encode, unencode and recover, from the input into the output
 //!   slice. The line ends with the slice after the call, two hexadecimal digits a
 //!   byte.
+//! - `C`: the converter (request T-11), from the input, a word of the series, into the
+//!   output slice. It takes no m, and the line ends as with `e`.
 //! - `l`: recovery of a long block, from the input into the output slice. It takes
 //!   no q. The line has the slice as with `e`, a space, and what became of the
 //!   work slice: `open` after a success and refusals 9 and 10, which may change it,
@@ -29,8 +32,12 @@
 //!
 //! A line starts with the op and the two numbers of the answer, and its parts are
 //! parted by one space each.
+//!
+//! Until request T-11 the series was among the zeros: a record from before it reads as
+//! it did.
 
 use crate::code;
+use crate::conversion;
 use crate::outcome::Outcome;
 
 pub const RECORD_LENGTH: usize = 1136;
@@ -38,6 +45,7 @@ pub const RECORD_LENGTH: usize = 1136;
 /// The most bytes that the input or the output slice of a case can have.
 pub const SLICE_ROOM: usize = 560;
 
+const FLIPPED_SERIES: usize = 10;
 const INPUT_OFFSET: usize = 16;
 const OUTPUT_OFFSET: usize = INPUT_OFFSET + SLICE_ROOM;
 
@@ -76,15 +84,32 @@ impl WorkLength {
 }
 
 /// What a record says. Slices longer than `SLICE_ROOM` are cut.
-#[derive(Clone, Debug, Default, PartialEq, Eq)]
+#[derive(Clone, Debug, PartialEq, Eq)]
 pub struct LongCase {
     pub op: u8,
     pub q: u8,
+    pub series: u8,
     pub m: u16,
     pub input: Vec<u8>,
     pub output: Vec<u8>,
     pub work_length: WorkLength,
     pub work_byte: u8,
+}
+
+/// Of series 1, and 0 or empty everywhere else.
+impl Default for LongCase {
+    fn default() -> LongCase {
+        LongCase {
+            op: 0,
+            q: 0,
+            series: 1,
+            m: 0,
+            input: Vec::new(),
+            output: Vec::new(),
+            work_length: WorkLength::Right,
+            work_byte: 0,
+        }
+    }
 }
 
 impl LongCase {
@@ -97,6 +122,7 @@ impl LongCase {
         record[4..6].copy_from_slice(&(input.len() as u16).to_le_bytes());
         record[6..8].copy_from_slice(&(output.len() as u16).to_le_bytes());
         record[8..10].copy_from_slice(&[self.work_length as u8, self.work_byte]);
+        record[FLIPPED_SERIES] = self.series ^ 1;
         record[INPUT_OFFSET..][..input.len()].copy_from_slice(input);
         record[OUTPUT_OFFSET..][..output.len()].copy_from_slice(output);
         record
@@ -108,6 +134,7 @@ impl LongCase {
         LongCase {
             op: record[0],
             q: record[1],
+            series: record[FLIPPED_SERIES] ^ 1,
             m: number(2),
             input: record[INPUT_OFFSET..][..length(4)].to_vec(),
             output: record[OUTPUT_OFFSET..][..length(6)].to_vec(),
@@ -129,16 +156,18 @@ impl LongCase {
     }
 
     fn call_without_work(&self, output: &mut [u8]) -> Outcome {
+        let LongCase { q, series, m, .. } = *self;
         match self.op {
-            b'e' => code::encode(self.q, self.m, &self.input, output),
-            b'u' => code::unencode(self.q, self.m, &self.input, output),
-            _ => code::recover(self.q, self.m, &self.input, output),
+            b'e' => code::encode(q, series, m, &self.input, output),
+            b'u' => code::unencode(q, series, m, &self.input, output),
+            b'C' => conversion::convert(q, series, &self.input, output),
+            _ => code::recover(q, series, m, &self.input, output),
         }
     }
 
     fn recover_long(&self, output: &mut [u8]) -> (Outcome, &'static str) {
         let mut work = vec![self.work_byte; self.work_length.bytes()];
-        let outcome = code::recover_long(self.m, &self.input, output, &mut work);
+        let outcome = code::recover_long(self.series, self.m, &self.input, output, &mut work);
         match outcome.number {
             0 | 9 | 10 => (outcome, " open"),
             _ => (outcome, " kept"),
@@ -155,6 +184,7 @@ mod tests {
         let case = LongCase {
             op: b'l',
             q: 8,
+            series: 1,
             m: 300,
             input: vec![6; 513],
             output: vec![7, 9],
@@ -165,8 +195,15 @@ mod tests {
         expected[..10].copy_from_slice(&[108, 8, 44, 1, 1, 2, 2, 0, 2, 33]);
         expected[16..529].fill(6);
         expected[576..578].copy_from_slice(&[7, 9]);
-        assert_eq!(case.to_record(), expected);
-        assert_eq!(LongCase::from_record(&expected), case);
+        for (series, byte) in [(1, 0), (2, 3), (0, 1), (3, 2), (255, 254)] {
+            let case = LongCase {
+                series,
+                ..case.clone()
+            };
+            expected[10] = byte;
+            assert_eq!(case.to_record(), expected);
+            assert_eq!(LongCase::from_record(&expected), case);
+        }
     }
 
     #[test]
@@ -221,6 +258,48 @@ mod tests {
                 ..case(b'l', &damaged, &[9])
             };
             assert_eq!(refused.line(), "l 14 0 09 kept\n");
+        }
+    }
+
+    /// Column 3 of series 1 is that of z + 1 = z^6, number 7 of series 2.
+    #[test]
+    fn lines_of_the_series() {
+        let of_column_3 = |series| LongCase {
+            op: b'C',
+            q: 8,
+            series,
+            input: (0..512).map(|place| u8::from(place / 8 == 3)).collect(),
+            output: vec![9; 512],
+            ..LongCase::default()
+        };
+        let with_column = |column: usize| {
+            let [before, after] = [8 * column, 8 * (63 - column)].map(|n| "00".repeat(n));
+            format!("C 0 0 {before}{}{after}\n", "01".repeat(8))
+        };
+        assert_eq!(of_column_3(1).line(), with_column(7));
+        // Number 3 of series 2 is z^2 = 4.
+        assert_eq!(of_column_3(2).line(), with_column(4));
+        let recovery = |series, work_length| LongCase {
+            op: b'l',
+            series,
+            input: vec![5; 512],
+            output: vec![9],
+            work_length,
+            ..LongCase::default()
+        };
+        assert_eq!(recovery(2, WorkLength::Right).line(), "l 0 0 05 open\n");
+        for series in [0, 3, 255] {
+            let refused = LongCase {
+                op: b'C',
+                q: 8,
+                series,
+                output: vec![9],
+                ..LongCase::default()
+            };
+            assert_eq!(refused.line(), "C 17 0 09\n");
+            for work_length in WorkLength::ALL {
+                assert_eq!(recovery(series, work_length).line(), "l 17 0 09 kept\n");
+            }
         }
     }
 

@@ -7,6 +7,7 @@ mod field_calls;
 mod refusing_calls;
 
 use crate::case_record::Case;
+use crate::curve::Series;
 use crate::generator::Generator;
 
 const SEED: u64 = 8;
@@ -19,8 +20,9 @@ const ORDERS: [u16; 16] = [
     0, 1, 7, 8, 37, 54, 55, 63, 64, 255, 256, 293, 511, 512, 513, 65_535,
 ];
 
-pub fn long_curve_cases() -> Vec<Case> {
+pub fn long_curve_cases(series: Series) -> Vec<Case> {
     let mut builder = Builder {
+        series,
         generator: Generator::with_seed(SEED),
         cases: Vec::new(),
     };
@@ -31,6 +33,7 @@ pub fn long_curve_cases() -> Vec<Case> {
 }
 
 struct Builder {
+    series: Series,
     generator: Generator,
     cases: Vec<Case>,
 }
@@ -43,6 +46,7 @@ impl Builder {
         self.cases.push(Case {
             op,
             q: Q,
+            series: self.series.number(),
             m,
             input: input.to_vec(),
             output,
@@ -73,20 +77,26 @@ mod tests {
 
     #[test]
     fn the_cases_are_reproducible_and_fit_their_records() {
-        let cases = long_curve_cases();
-        assert_eq!(cases, long_curve_cases());
-        assert!((2000..=2800).contains(&cases.len()), "{}", cases.len());
-        for case in &cases {
-            let record: [u8; RECORD_LENGTH] = case.to_record();
-            assert_eq!(&Case::from_record(&record), case);
+        for series in Series::BOTH {
+            let cases = long_curve_cases(series);
+            assert_eq!(cases, long_curve_cases(series));
+            assert!((2000..=2800).contains(&cases.len()), "{}", cases.len());
+            for case in &cases {
+                let record: [u8; RECORD_LENGTH] = case.to_record();
+                assert_eq!(&Case::from_record(&record), case);
+            }
         }
     }
 
     #[test]
     fn each_op_at_q_8_meets_just_these_answers() {
+        Series::BOTH.into_iter().for_each(assert_answers);
+    }
+
+    fn assert_answers(series: Series) {
         let mut runner = Runner::default();
         let mut found: BTreeMap<char, BTreeSet<u8>> = BTreeMap::new();
-        for case in long_curve_cases() {
+        for case in long_curve_cases(series) {
             let stored = runner.session().q;
             let line = runner.run(&case);
             let q = if b"akJ".contains(&case.op) {
@@ -114,12 +124,12 @@ mod tests {
     }
 
     /// Sessions stored with q = 8 stay as they are, and what refused openings hand
-    /// back is that of q = 2, m = 0.
+    /// back is that of q = 2, series 1, m = 0.
     #[test]
     fn refusals_keep_the_session_and_hand_back_the_refused_job() {
         let mut runner = Runner::default();
         let mut kept = 0;
-        for case in long_curve_cases() {
+        for case in Series::BOTH.into_iter().flat_map(long_curve_cases) {
             let before = *runner.session();
             runner.run(&case);
             match case.op {
@@ -132,14 +142,14 @@ mod tests {
                 _ => {}
             }
         }
-        assert!(kept >= 100, "{kept}");
+        assert!(kept >= 200, "{kept}");
     }
 
     /// At the order 0 the message of one symbol is good, and only the word's slice,
     /// which has no room for 512 symbols, is refused.
     #[test]
     fn all_symbols_are_inverted_and_every_order_is_encoded_as_far_as_there_is_room() {
-        let cases = long_curve_cases();
+        let cases = long_curve_cases(Series::Two);
         let inverted = cases.iter().filter(|case| case.op == b'i');
         let symbols: BTreeSet<u8> = inverted.map(|case| case.a).collect();
         assert!((0..64).all(|symbol| symbols.contains(&symbol)));

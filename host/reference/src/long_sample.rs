@@ -1,9 +1,10 @@
-//! Cases of long blocks (request T-09): encode, unencode and recovery at q = 8, with
-//! every answer that they can give.
+//! Cases of long blocks (request T-09): encode, unencode and recovery at q = 8 in both
+//! series, and the converter (request T-11), with every answer that they can give.
 
 mod refused;
+mod series;
 
-use crate::curve::Curve;
+use crate::curve::{Curve, Series};
 use crate::generator::Generator;
 use crate::long_case_record::{LongCase, WorkLength};
 use crate::sample::{self, Shape};
@@ -14,13 +15,24 @@ const SEED: u64 = 9;
 /// between, and the highest.
 pub const ORDERS: [u16; 12] = [0, 1, 8, 9, 17, 54, 55, 56, 255, 300, 510, 511];
 
+/// Those from before request T-11 come first: that they and their lines stay as they
+/// were shows that series 1 gives what the calls gave before there were two. Then come
+/// the same with series 2, and at last numbers that name no series and the converter.
 pub fn long_cases() -> Vec<LongCase> {
+    let mut cases = cases_of_series(Series::One);
+    cases.extend(cases_of_series(Series::Two));
+    cases.extend(series::series_cases());
+    cases
+}
+
+fn cases_of_series(series: Series) -> Vec<LongCase> {
     let mut builder = Builder {
+        series: series.number(),
         generator: Generator::with_seed(SEED),
         cases: Vec::new(),
     };
     for m in ORDERS {
-        let shape = Shape::of(Curve::Q_IS_8, m);
+        let shape = Shape::of(Curve::Q_IS_8.in_series(series), m);
         builder.encoded_messages(shape);
         builder.unencoded_words(shape);
         builder.broken_words(shape);
@@ -28,11 +40,12 @@ pub fn long_cases() -> Vec<LongCase> {
         builder.whole_columns(shape);
         builder.refused_calls(shape);
     }
-    builder.short_blocks();
+    builder.short_blocks(series);
     builder.cases
 }
 
 struct Builder {
+    series: u8,
     generator: Generator,
     cases: Vec<LongCase>,
 }
@@ -46,6 +59,7 @@ impl Builder {
         self.cases.push(LongCase {
             op,
             q,
+            series: self.series,
             m,
             input: input.to_vec(),
             output,
@@ -140,8 +154,9 @@ impl Builder {
     }
 
     /// Which go through the same calls, and `r` takes only them.
-    fn short_blocks(&mut self) {
-        for (curve, m) in [(Curve::Q_IS_2, 3), (Curve::Q_IS_4, 37), (Curve::Q_IS_4, 63)] {
+    fn short_blocks(&mut self, series: Series) {
+        let [small, large] = sample::short_curves(series);
+        for (curve, m) in [(small, 3), (large, 37), (large, 63)] {
             let shape = Shape::of(curve, m);
             let message = sample::message(&mut self.generator, shape);
             let word = shape.word_of(&message);
@@ -161,6 +176,7 @@ impl Builder {
 #[cfg(test)]
 mod tests {
     use super::*;
+    use crate::checksum::checksum;
     use crate::code::MISSING;
     use crate::long_case_record::RECORD_LENGTH;
     use std::collections::BTreeSet;
@@ -169,46 +185,68 @@ mod tests {
     fn the_cases_are_reproducible_and_fit_their_records() {
         let cases = long_cases();
         assert_eq!(cases, long_cases());
-        assert!((1100..=1400).contains(&cases.len()), "{}", cases.len());
+        assert!((2600..=2800).contains(&cases.len()), "{}", cases.len());
         for case in &cases {
             let record: [u8; RECORD_LENGTH] = case.to_record();
             assert_eq!(&LongCase::from_record(&record), case);
         }
     }
 
+    /// The cases from before request T-11 and their lines, by number and checksum.
+    #[test]
+    fn the_cases_before_the_second_series_come_first_and_are_unchanged() {
+        let before = cases_of_series(Series::One);
+        assert_eq!(before.len(), 1_234);
+        assert_eq!(long_cases()[..1_234], before);
+        let records: Vec<u8> = before.iter().flat_map(LongCase::to_record).collect();
+        assert_eq!(checksum(&records), 0x39A5_36EC_DCC4_EADE);
+        let lines: String = before.iter().map(LongCase::line).collect();
+        assert_eq!(checksum(lines.as_bytes()), 0xEA7D_B704_1CEE_6625);
+    }
+
     /// Each op gets every answer that it can give and no other, and at every order of
-    /// the list a message is encoded, unencoded and recovered, refused with 9 and, by
-    /// recovery, with 10 and 14.
+    /// the list a message is encoded, unencoded and recovered in both series, refused
+    /// with 9 and, by recovery, with 10 and 14.
     #[test]
     fn every_answer_of_every_op_occurs() {
         let mut answers: BTreeSet<(char, u8)> = BTreeSet::new();
-        let mut at_order: BTreeSet<(char, u8, u16)> = BTreeSet::new();
+        let mut at_order: BTreeSet<(char, u8, (u8, u16))> = BTreeSet::new();
         for case in long_cases() {
             let (op, number) = op_and_number(&case.line());
             answers.insert((op, number));
             if case.q == 8 {
-                at_order.insert((op, number, case.m));
+                at_order.insert((op, number, (case.series, case.m)));
             }
         }
         let possible = [
-            ('e', vec![0, 1, 2, 3, 4, 5]),
-            ('u', vec![0, 1, 2, 3, 4, 5, 9]),
-            ('r', vec![0, 1, 2, 3, 4, 5, 9, 10]),
-            ('l', vec![0, 2, 3, 4, 5, 9, 10, 14]),
+            ('e', vec![0, 1, 2, 3, 4, 5, 17]),
+            ('u', vec![0, 1, 2, 3, 4, 5, 9, 17]),
+            ('r', vec![0, 1, 2, 3, 4, 5, 9, 10, 17]),
+            ('l', vec![0, 2, 3, 4, 5, 9, 10, 14, 17]),
+            ('C', vec![0, 1, 3, 4, 5, 17]),
         ];
         let possible = possible.into_iter();
         let possible = possible.flat_map(|(op, numbers)| numbers.into_iter().map(move |n| (op, n)));
         assert_eq!(answers, possible.collect());
-        for m in ORDERS {
+        for order in orders_in_both_series() {
             let expected = ['e', 'u', 'l'].map(|op| (op, 0)).into_iter();
             let refused = [('u', 9), ('l', 9), ('l', 10), ('l', 14), ('r', 1)];
             for (op, number) in expected.chain(refused) {
-                assert!(at_order.contains(&(op, number, m)), "{op} {number} {m}");
+                assert!(
+                    at_order.contains(&(op, number, order)),
+                    "{op} {number} {order:?}"
+                );
             }
         }
     }
 
-    fn op_and_number(line: &str) -> (char, u8) {
+    /// The number of the series and the order.
+    fn orders_in_both_series() -> impl Iterator<Item = (u8, u16)> {
+        let series = Series::BOTH.into_iter().map(Series::number);
+        series.flat_map(|series| ORDERS.map(|m| (series, m)))
+    }
+
+    pub(super) fn op_and_number(line: &str) -> (char, u8) {
         let mut parts = line.split(' ');
         let op = parts.next().and_then(|op| op.chars().next());
         let number = parts.next().and_then(|number| number.parse().ok());
@@ -220,8 +258,10 @@ mod tests {
     #[test]
     fn recovery_meets_every_number_of_missing_symbols_that_matters() {
         let cases = long_cases();
-        for m in ORDERS {
-            let recoveries = cases.iter().filter(|case| case.op == b'l' && case.m == m);
+        for (series, m) in orders_in_both_series() {
+            let recoveries = cases
+                .iter()
+                .filter(|case| (case.op, case.series, case.m) == (b'l', series, m));
             let missing: BTreeSet<usize> = recoveries
                 .map(|case| case.input.iter().filter(|&&s| s == MISSING).count())
                 .collect();
@@ -235,7 +275,8 @@ mod tests {
     #[test]
     fn refusal_14_comes_with_every_other_length_and_every_kind_of_word() {
         let mut found = BTreeSet::new();
-        for case in long_cases() {
+        let other_length = |case: &LongCase| case.work_length != WorkLength::Right;
+        for case in long_cases().into_iter().filter(other_length) {
             if op_and_number(&case.line()) == ('l', 14) {
                 let right = LongCase {
                     work_length: WorkLength::Right,

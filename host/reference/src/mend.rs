@@ -26,13 +26,14 @@ type Codeword = (Vec<u8>, Vec<u8>);
 /// Beside the outcome stands the count of changes, 0 if the call is refused.
 pub fn mend(
     q: u8,
+    series: u8,
     m: u16,
     word: &[u8],
     message: &mut [u8],
     mended: &mut [u8],
     marks: &mut [u8],
 ) -> (Outcome, u8) {
-    match try_mend(q, m, word, message, mended, marks) {
+    match try_mend(q, series, m, word, message, mended, marks) {
         Ok(count) => (Outcome::ACCEPTED, count),
         Err(refusal) => (refusal, 0),
     }
@@ -40,13 +41,14 @@ pub fn mend(
 
 fn try_mend(
     q: u8,
+    series: u8,
     m: u16,
     word: &[u8],
     message: &mut [u8],
     mended: &mut [u8],
     marks: &mut [u8],
 ) -> Result<u8, Outcome> {
-    let mender = Mender::of_order(checks::short_curve_and_order(q, m)?, m)?;
+    let mender = Mender::of_order(checks::short_curve_and_order(q, series, m)?, m)?;
     let Shape { n, k, curve, .. } = mender.shape;
     checks::input_length(word, n)?;
     checks::symbols(curve.field(), word)?;
@@ -91,7 +93,7 @@ impl Mender {
 
     /// The only codeword within t of the word, if there is one.
     fn codeword_near(&self, word: &[u8]) -> Option<Codeword> {
-        if self.shape.curve == Curve::Q_IS_2 {
+        if self.shape.q() == 2 {
             self.by_trial(word, sample::all_messages_with_words(self.shape))
         } else {
             self.by_recovery(word)
@@ -151,6 +153,7 @@ impl Mender {
 mod tests {
     use super::*;
     use crate::code;
+    use crate::curve::Series;
     use crate::generator::Generator;
 
     /// What an accepted call gives.
@@ -164,10 +167,16 @@ mod tests {
 
     /// The result of a call with slices of the lengths for message, word and
     /// marks, or its refusal after a look that nothing was written.
-    fn run(q: u8, m: u16, input: &[u8], lengths: [usize; 3]) -> Result<Mended, Outcome> {
+    fn run(
+        q: u8,
+        series: u8,
+        m: u16,
+        input: &[u8],
+        lengths: [usize; 3],
+    ) -> Result<Mended, Outcome> {
         let before = lengths.map(|length| (100..).take(length).collect::<Vec<u8>>());
         let [mut message, mut word, mut marks] = before.clone();
-        let (outcome, count) = mend(q, m, input, &mut message, &mut word, &mut marks);
+        let (outcome, count) = mend(q, series, m, input, &mut message, &mut word, &mut marks);
         if outcome != Outcome::ACCEPTED {
             assert_eq!([message, word, marks], before);
             assert_eq!(count, 0);
@@ -182,7 +191,13 @@ mod tests {
     }
 
     fn run_shaped(shape: Shape, input: &[u8]) -> Result<Mended, Outcome> {
-        run(shape.q(), shape.m, input, [shape.k, shape.n, shape.n])
+        let lengths = [shape.k, shape.n, shape.n];
+        run(shape.q(), shape.series(), shape.m, input, lengths)
+    }
+
+    /// In both series.
+    fn every_mended() -> impl Iterator<Item = (Shape, usize)> {
+        Series::BOTH.into_iter().flat_map(Shape::every_mended_in)
     }
 
     const NOTHING_NEAR: Result<Mended, Outcome> = Err(Outcome::NO_CODEWORD_NEAR);
@@ -195,7 +210,11 @@ mod tests {
             marks,
             count,
         };
-        let run = |word: [u8; 8]| run(2, 3, &word, [3, 8, 8]);
+        let run = |word: [u8; 8]| {
+            let [one, two] = [1, 2].map(|series| run(2, series, 3, &word, [3, 8, 8]));
+            assert_eq!(one, two);
+            one
+        };
         assert_eq!(run([1, 2, 2, 1, 3, 0, 1, 2]), Ok(mended(vec![0; 8], 0)));
         let third = vec![0, 0, 1, 0, 0, 0, 0, 0];
         assert_eq!(run([1, 2, 0, 1, 3, 0, 1, 2]), Ok(mended(third, 1)));
@@ -208,7 +227,7 @@ mod tests {
     /// At order 0 every word holds one symbol, and t is 3.
     #[test]
     fn the_symbol_of_five_places_wins_at_order_0() {
-        let five = run(2, 0, &[3, 1, 1, 2, 1, 0, 1, 1], [1, 8, 8]);
+        let five = run(2, 1, 0, &[3, 1, 1, 2, 1, 0, 1, 1], [1, 8, 8]);
         let expected = Mended {
             message: vec![1],
             word: vec![1; 8],
@@ -216,13 +235,13 @@ mod tests {
             count: 3,
         };
         assert_eq!(five, Ok(expected));
-        let four = run(2, 0, &[3, 1, 1, 2, 1, 0, 1, 2], [1, 8, 8]);
+        let four = run(2, 1, 0, &[3, 1, 1, 2, 1, 0, 1, 2], [1, 8, 8]);
         assert_eq!(four, NOTHING_NEAR);
     }
 
     #[test]
     fn at_t_0_only_codewords_pass() {
-        for (shape, _) in Shape::every_mended().filter(|&(_, radius)| radius == 0) {
+        for (shape, _) in every_mended().filter(|&(_, radius)| radius == 0) {
             let zeros = run_shaped(shape, &vec![0; shape.n]).expect("a codeword");
             assert_eq!(zeros.count, 0);
             for place in 0..shape.n {
@@ -236,7 +255,7 @@ mod tests {
     #[test]
     fn up_to_t_wrong_symbols_are_mended_at_every_order() {
         let mut generator = Generator::with_seed(51);
-        for (shape, radius) in Shape::every_mended() {
+        for (shape, radius) in every_mended() {
             for count in 0..=radius {
                 let message = sample::message(&mut generator, shape);
                 let codeword = shape.word_of(&message);
@@ -257,7 +276,7 @@ mod tests {
     #[test]
     fn more_than_t_wrong_symbols_are_refused_while_no_other_codeword_is_near() {
         let mut generator = Generator::with_seed(52);
-        for (shape, radius) in Shape::every_mended() {
+        for (shape, radius) in every_mended() {
             let enough = shape.n - usize::from(shape.m) - radius;
             for count in [radius + 1, radius + 2, enough - 1] {
                 if radius < count && count < enough {
@@ -272,8 +291,9 @@ mod tests {
     #[test]
     fn the_strap_mends_ten_wrong_symbols_wherever_they_are() {
         let mut generator = Generator::with_seed(53);
-        let shape = Shape::of(Curve::Q_IS_4, 37);
-        for first in 0..=shape.n - 11 {
+        let in_both_series = Curve::Q_IS_4.in_both_series();
+        for (first, curve) in (0..=64 - 11).zip(in_both_series.into_iter().cycle()) {
+            let shape = Shape::of(curve, 37);
             let codeword = sample::codeword(&mut generator, shape);
             let mut word = codeword.clone();
             for symbol in &mut word[first..first + 10] {
@@ -291,7 +311,7 @@ mod tests {
     #[test]
     fn the_nearer_of_two_codewords_is_given() {
         let mut generator = Generator::with_seed(54);
-        for (shape, radius) in Shape::every_mended() {
+        for (shape, radius) in every_mended() {
             let codeword = sample::codeword(&mut generator, shape);
             let neighbour = sample::neighbour(&mut generator, shape, &codeword);
             let word = sample::on_the_way(&codeword, &neighbour, radius);
@@ -351,7 +371,7 @@ mod tests {
     #[test]
     fn f_is_never_0_and_vanishes_at_s_places_at_most() {
         let mut generator = Generator::with_seed(56);
-        for (shape, radius) in Shape::every_mended() {
+        for (shape, radius) in every_mended() {
             let mender = Mender { shape, radius };
             let codeword = sample::codeword(&mut generator, shape);
             for count in [0, radius, radius + 1, shape.n / 2] {
@@ -373,10 +393,10 @@ mod tests {
         let codeword = sample::codeword(&mut generator, shape);
         let word = sample::damaged(&mut generator, shape, &codeword);
         let mut message = vec![0; shape.k];
-        let outcome = code::unencode(4, 37, &word, &mut message);
+        let outcome = code::unencode(4, 1, 37, &word, &mut message);
         assert_eq!(outcome, Outcome::NO_MESSAGE_FITS);
         let mended = run_shaped(shape, &word).expect("one wrong symbol");
-        let outcome = code::unencode(4, 37, &mended.word, &mut message);
+        let outcome = code::unencode(4, 1, 37, &mended.word, &mut message);
         assert_eq!(outcome, Outcome::ACCEPTED);
         assert_eq!(message, mended.message);
     }
@@ -384,21 +404,29 @@ mod tests {
     /// Each call starts with every fault and loses them one by one.
     #[test]
     fn refusals_come_in_the_order_of_the_checks() {
-        for shape in Shape::every_short() {
+        for shape in Shape::every_short_in_both_series() {
             let (q, m, n, bad) = (shape.q(), shape.m, shape.n, shape.field_size);
+            let (series, bad_word) = (shape.series(), vec![bad; n + 1]);
             let too_long = [shape.k + 1, n + 1, n + 1];
             for curve_number in (0..=255).filter(|number| ![2, 4].contains(number)) {
-                for order in [255, 256 + m, u16::MAX] {
-                    let outcome = run(curve_number, order, &vec![bad; n + 1], too_long);
+                for (series, order) in [(0, 255), (series, 256 + m), (3, u16::MAX)] {
+                    let outcome = run(curve_number, series, order, &bad_word, too_long);
                     assert_eq!(outcome, Err(Outcome::UNKNOWN_CURVE));
                 }
             }
+            for (bad_series, order) in sample::BAD_SERIES
+                .map(|bad| [(bad, m), (bad, 255)])
+                .concat()
+            {
+                let outcome = run(q, bad_series, order, &bad_word, too_long);
+                assert_eq!(outcome, Err(Outcome::BAD_SERIES));
+            }
             for order in (n as u16..=255).chain(sample::numbers_too_high(shape.curve)) {
-                let outcome = run(q, order, &vec![bad; n + 1], too_long);
+                let outcome = run(q, series, order, &bad_word, too_long);
                 assert_eq!(outcome, Err(Outcome::ORDER_TOO_HIGH));
             }
             if shape.curve.radius(m).is_none() {
-                let outcome = run(q, m, &vec![bad; n + 1], too_long);
+                let outcome = run(q, series, m, &bad_word, too_long);
                 assert_eq!(outcome, Err(Outcome::ORDER_TOO_HIGH_TO_MEND));
                 let outcome = run_shaped(shape, &vec![0; n]);
                 assert_eq!(outcome, Err(Outcome::ORDER_TOO_HIGH_TO_MEND));
@@ -409,16 +437,17 @@ mod tests {
     }
 
     fn refusals_from_3_on(shape: Shape, too_long: [usize; 3]) {
-        let (q, m, n, bad) = (shape.q(), shape.m, shape.n, shape.field_size);
+        let (q, series, m) = (shape.q(), shape.series(), shape.m);
+        let (n, bad) = (shape.n, shape.field_size);
         for length in [0, n - 1, n + 1, 72, 255, 256, 300] {
-            let outcome = run(q, m, &vec![bad; length], too_long);
+            let outcome = run(q, series, m, &vec![bad; length], too_long);
             assert_eq!(outcome, Err(Outcome::WRONG_INPUT_LENGTH));
         }
         for index in 0..n {
             for value in [bad, 254, MISSING] {
                 let mut word = vec![0; n];
                 word[index..].fill(value);
-                let outcome = run(q, m, &word, too_long);
+                let outcome = run(q, series, m, &word, too_long);
                 assert_eq!(outcome, Err(Outcome::value_too_high(index as u16)));
             }
         }
@@ -432,7 +461,7 @@ mod tests {
             for length in [0, right[slice] - 1, right[slice] + 1, 72, 155] {
                 let mut lengths = right;
                 lengths[slice] = length;
-                let outcome = run(q, m, &far, lengths);
+                let outcome = run(q, series, m, &far, lengths);
                 assert_eq!(outcome, Err(Outcome::WRONG_OUTPUT_LENGTH));
             }
         }

@@ -3,7 +3,7 @@
 mod refused;
 
 use crate::case_record::Case;
-use crate::curve::Curve;
+use crate::curve::Series;
 use crate::generator::Generator;
 use crate::sample::{self, misleading, Shape};
 
@@ -11,26 +11,28 @@ const SEED: u64 = 3;
 
 /// The cases of all orders, then those that no order below n has, and at last
 /// words that mislead a mender.
-pub fn mend_cases() -> Vec<Case> {
+pub fn mend_cases(series: Series) -> Vec<Case> {
     let mut builder = Builder {
+        series,
         generator: Generator::with_seed(SEED),
         cases: Vec::new(),
     };
-    for shape in Shape::every_short() {
+    for shape in Shape::every_short_in(series) {
         match shape.curve.radius(shape.m) {
             Some(radius) => builder.mended_order(shape, radius),
             None => builder.order_too_high_to_mend(shape),
         }
     }
+    let [small, large] = sample::short_curves(series);
     for m in [3, 6] {
-        builder.every_single_fault(Shape::of(Curve::Q_IS_2, m));
+        builder.every_single_fault(Shape::of(small, m));
     }
     for m in [4, 37] {
-        builder.every_single_fault(Shape::of(Curve::Q_IS_4, m));
+        builder.every_single_fault(Shape::of(large, m));
     }
     builder.bad_orders();
     builder.bad_curves();
-    for (shape, radius) in Shape::every_mended().filter(|&(_, radius)| radius > 0) {
+    for (shape, radius) in Shape::every_mended_in(series).filter(|&(_, radius)| radius > 0) {
         builder.misleading_words(shape, radius);
     }
     builder.cases
@@ -42,13 +44,16 @@ fn right_lengths(shape: Shape) -> [usize; 3] {
 }
 
 struct Builder {
+    series: Series,
     generator: Generator,
     cases: Vec<Case>,
 }
 
 impl Builder {
     fn call(&mut self, q: u8, m: u16, word: &[u8], lengths: [usize; 3]) {
-        self.cases.push(Case::of_mending(q, m, word, lengths));
+        let series = self.series.number();
+        let case = Case::of_mending(q, series, m, word, lengths);
+        self.cases.push(case);
     }
 
     fn call_at(&mut self, shape: Shape, word: &[u8], lengths: [usize; 3]) {
@@ -154,13 +159,15 @@ mod tests {
 
     #[test]
     fn the_cases_are_reproducible_and_fit_their_records() {
-        let cases = mend_cases();
-        assert_eq!(cases, mend_cases());
-        assert!((1500..=3000).contains(&cases.len()), "{}", cases.len());
-        for case in &cases {
-            let record: [u8; RECORD_LENGTH] = case.to_record();
-            assert_eq!(&Case::from_record(&record), case);
-            assert_eq!(case.op, b'm');
+        for series in Series::BOTH {
+            let cases = mend_cases(series);
+            assert_eq!(cases, mend_cases(series));
+            assert!((1500..=3000).contains(&cases.len()), "{}", cases.len());
+            for case in &cases {
+                let record: [u8; RECORD_LENGTH] = case.to_record();
+                assert_eq!(&Case::from_record(&record), case);
+                assert_eq!(case.op, b'm');
+            }
         }
     }
 
@@ -168,14 +175,18 @@ mod tests {
     /// always meets 12.
     #[test]
     fn every_answer_of_every_order_occurs() {
-        let answers: BTreeSet<(u8, u16, u8, u8)> = mend_cases()
+        Series::BOTH.into_iter().for_each(assert_answers);
+    }
+
+    fn assert_answers(series: Series) {
+        let answers: BTreeSet<(u8, u16, u8, u8)> = mend_cases(series)
             .iter()
             .map(|case| {
                 let [number, _, count] = numbers(case);
                 (case.q, case.m, number, count)
             })
             .collect();
-        for shape in Shape::every_short() {
+        for shape in Shape::every_short_in(series) {
             let of_order = answers
                 .iter()
                 .filter(|a| (a.0, a.1) == (shape.q(), shape.m));
@@ -197,10 +208,12 @@ mod tests {
     #[test]
     fn misleading_words_are_refused() {
         let mut builder = Builder {
+            series: Series::Two,
             generator: Generator::with_seed(SEED),
             cases: Vec::new(),
         };
-        let orders = Shape::every_mended().filter(|(shape, radius)| shape.q() == 4 && *radius > 0);
+        let orders = Shape::every_mended_in(builder.series);
+        let orders = orders.filter(|(shape, radius)| shape.q() == 4 && *radius > 0);
         for (shape, radius) in orders {
             builder.misleading_words(shape, radius);
             let found: Vec<[u8; 3]> = builder.cases.drain(..).map(|case| numbers(&case)).collect();

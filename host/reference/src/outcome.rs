@@ -22,6 +22,7 @@ impl Outcome {
     pub const WRONG_WORK_LENGTH: Outcome = Outcome::plain(14);
     pub const BAD_PLACES: Outcome = Outcome::plain(15);
     pub const PLACES_LEAVE_SEVERAL: Outcome = Outcome::plain(16);
+    pub const BAD_SERIES: Outcome = Outcome::plain(17);
 
     const fn plain(number: u8) -> Outcome {
         Outcome { number, second: 0 }
@@ -81,6 +82,7 @@ mod tests {
             Outcome::WRONG_WORK_LENGTH,
             Outcome::BAD_PLACES,
             Outcome::PLACES_LEAVE_SEVERAL,
+            Outcome::BAD_SERIES,
         ];
         // Request T-01: refusal 8 no longer occurs.
         let expected = (0u8..).filter(|&number| number != 8);

@@ -1,7 +1,7 @@
 //! The text that the program `progress` prints for an input: recovery in slices,
 //! as request T-05 has it for the display.
 
-use crate::blocks::{self, lines_of_parts, CURVE_NUMBER, MESSAGE_LENGTH, ORDER};
+use crate::blocks::{self, lines_of_parts, CURVE_NUMBER, MESSAGE_LENGTH, ORDER, SERIES};
 use crate::job::{Job, Reply};
 use crate::outcome::Outcome;
 
@@ -16,7 +16,7 @@ pub fn progress(input: &[u8]) -> String {
 
 /// A refused opening gives the line that `blocks` has for the record.
 fn record_lines(number: usize, record: &[u8]) -> String {
-    match Job::open(CURVE_NUMBER, ORDER, record) {
+    match Job::open(CURVE_NUMBER, SERIES, ORDER, record) {
         (job, Outcome::ACCEPTED) => call_lines(number, job),
         (_, refusal) => format!("{number} {}\n", blocks::result(refusal, &[])),
     }
@@ -111,7 +111,7 @@ mod tests {
     fn missing_symbols_are_not_brought_in() {
         let message: Vec<u8> = (0..32).map(|index| index % 16).collect();
         let mut word = [0; 64];
-        let outcome = code::encode(4, 37, &message, &mut word);
+        let outcome = code::encode(4, 1, 37, &message, &mut word);
         assert_eq!(outcome, Outcome::ACCEPTED);
         word[5..31].fill(255);
         let text = lines(&word);

@@ -10,8 +10,8 @@ pub const ARRIVAL_LENGTH: usize = 4;
 /// Opens a session, lets the arrivals come one after another, accepted or not, and
 /// asks. A rest that is too short for an arrival is ignored. A refused opening is
 /// the answer.
-pub fn replay(q: u8, m: u16, arrivals: &[u8], message: &mut [u8]) -> Outcome {
-    let (opened, outcome) = Session::open(q, m);
+pub fn replay(q: u8, series: u8, m: u16, arrivals: &[u8], message: &mut [u8]) -> Outcome {
+    let (opened, outcome) = Session::open(q, series, m);
     if outcome != Outcome::ACCEPTED {
         return outcome;
     }
@@ -38,9 +38,9 @@ mod tests {
 
     /// The answer with a slice of this length, which only a message is written
     /// to.
-    fn run(q: u8, m: u16, arrivals: &[u8], length: usize) -> Result<Vec<u8>, Outcome> {
+    fn run(q: u8, series: u8, m: u16, arrivals: &[u8], length: usize) -> Result<Vec<u8>, Outcome> {
         let mut message = vec![99; length];
-        match replay(q, m, arrivals, &mut message) {
+        match replay(q, series, m, arrivals, &mut message) {
             Outcome::ACCEPTED => Ok(message),
             refusal => {
                 assert_eq!(message, vec![99; length]);
@@ -54,10 +54,10 @@ mod tests {
 
     #[test]
     fn value_h() {
-        assert_eq!(run(2, 3, &VALUE_H, 3), Ok(vec![0, 1, 1]));
+        assert_eq!(run(2, 1, 3, &VALUE_H, 3), Ok(vec![0, 1, 1]));
         let several = |r| Err(Outcome::several_messages_fit(r));
-        assert_eq!(run(2, 3, &VALUE_H[..12], 3), several(1));
-        assert_eq!(run(2, 3, &[], 3), several(3));
+        assert_eq!(run(2, 1, 3, &VALUE_H[..12], 3), several(1));
+        assert_eq!(run(2, 1, 3, &[], 3), several(3));
     }
 
     /// The rest would be a 2 at place 5, where the word has 1.
@@ -67,10 +67,10 @@ mod tests {
         assert_eq!(wrong, [5, 0, 2, 0]);
         for length in 0..4 {
             let arrivals = [VALUE_H.as_slice(), &wrong[..length]].concat();
-            assert_eq!(run(2, 3, &arrivals, 3), Ok(vec![0, 1, 1]));
+            assert_eq!(run(2, 1, 3, &arrivals, 3), Ok(vec![0, 1, 1]));
         }
         let arrivals = [VALUE_H, [5, 0, 2, 0, 9, 9, 9, 9, 9, 9, 9, 9, 9, 9, 9, 9]].concat();
-        assert_eq!(run(2, 3, &arrivals, 3), Err(Outcome::NO_MESSAGE_FITS));
+        assert_eq!(run(2, 1, 3, &arrivals, 3), Err(Outcome::NO_MESSAGE_FITS));
     }
 
     /// A 2 in a higher round: at place 1 of another message, at place 5 of none, and
@@ -81,23 +81,27 @@ mod tests {
         let answers = [(1, Ok(vec![0, 2, 2])), (5, Err(Outcome::NO_MESSAGE_FITS))];
         for (place, answer) in answers {
             let at_place = [VALUE_H.as_slice(), &[place, 0, 2, 9]].concat();
-            assert_eq!(run(2, 3, &at_place, 3), answer);
+            assert_eq!(run(2, 1, 3, &at_place, 3), answer);
             for high in [1, 2, 128, 255] {
                 let beyond = [VALUE_H.as_slice(), &[place, high, 2, 9]].concat();
-                assert_eq!(run(2, 3, &beyond, 3), Ok(vec![0, 1, 1]));
+                assert_eq!(run(2, 1, 3, &beyond, 3), Ok(vec![0, 1, 1]));
             }
         }
     }
 
     #[test]
     fn refusals_of_the_opening_and_of_the_asking() {
-        assert_eq!(run(3, 65535, &VALUE_H, 3), Err(Outcome::UNKNOWN_CURVE));
+        assert_eq!(run(3, 0, 65535, &VALUE_H, 3), Err(Outcome::UNKNOWN_CURVE));
+        for series in sample::BAD_SERIES {
+            let refused = Err(Outcome::BAD_SERIES);
+            assert_eq!(run(2, series, 65535, &VALUE_H, 3), refused);
+        }
         for m in [8, 255, 256, 259, 65535] {
-            assert_eq!(run(2, m, &VALUE_H, 3), Err(Outcome::ORDER_TOO_HIGH));
+            assert_eq!(run(2, 1, m, &VALUE_H, 3), Err(Outcome::ORDER_TOO_HIGH));
         }
         for length in [0, 2, 4] {
             let refused = Err(Outcome::WRONG_OUTPUT_LENGTH);
-            assert_eq!(run(2, 3, &VALUE_H, length), refused);
+            assert_eq!(run(2, 1, 3, &VALUE_H, length), refused);
         }
     }
 
@@ -109,14 +113,16 @@ mod tests {
                 .flat_map(|&(place, symbol, round)| arrival_bytes(place, symbol, round))
                 .collect();
             let k = if worked.m == 0 { 1 } else { 3 };
-            assert_eq!(run(2, worked.m, &bytes, k), worked.answer);
+            for series in [1, 2] {
+                assert_eq!(run(2, series, worked.m, &bytes, k), worked.answer);
+            }
         }
     }
 
     #[test]
     fn m_plus_1_arrivals_are_enough_at_every_order() {
         let mut generator = Generator::with_seed(81);
-        for shape in Shape::every_short() {
+        for shape in Shape::every_short_in_both_series() {
             let message = sample::message(&mut generator, shape);
             let word = shape.word_of(&message);
             let places = generator.permutation(shape.n);
@@ -125,7 +131,8 @@ mod tests {
                 .iter()
                 .flat_map(|&place| arrival_bytes(place as u16, word[place], generator.byte()))
                 .collect();
-            assert_eq!(run(shape.q(), shape.m, &arrivals, shape.k), Ok(message));
+            let (q, series) = (shape.q(), shape.series());
+            assert_eq!(run(q, series, shape.m, &arrivals, shape.k), Ok(message));
         }
     }
 }

@@ -4,12 +4,15 @@ pub mod misleading;
 pub mod places;
 
 use crate::code::{self, MISSING};
-use crate::curve::Curve;
+use crate::curve::{Curve, Series};
 use crate::generator::Generator;
 
 /// Numbers that name no curve of short blocks. Field operations, encode and
 /// unencode take 8 since request T-09.
 pub const BAD_CURVES: [u8; 6] = [0, 1, 3, 5, 8, 255];
+
+/// Numbers that name no series. The low bits of 130 are those of 2.
+pub const BAD_SERIES: [u8; 4] = [0, 3, 130, 255];
 
 /// Curve numbers, each with an order of n or more.
 pub const BAD_ORDERS: [(u8, u16); 9] = [
@@ -23,6 +26,11 @@ pub const BAD_ORDERS: [(u8, u16); 9] = [
     (4, 128),
     (4, 255),
 ];
+
+/// The curves of short blocks in a series.
+pub fn short_curves(series: Series) -> [Curve; 2] {
+    Curve::SHORT.map(|curve| curve.in_series(series))
+}
 
 /// Orders or places of n or more: n itself, some about the limits of 8 and of 16
 /// bits, and some whose low byte is below n, among them all with the high byte 1.
@@ -41,7 +49,8 @@ pub fn numbers_too_high(curve: Curve) -> Vec<u16> {
 /// Few, so that the same round comes up again at a place.
 pub const ROUNDS: [u8; 4] = [0, 1, 2, 255];
 
-/// A curve and an order below its n, with the numbers that follow from them.
+/// A curve in a series and an order below its n, with the numbers that follow from
+/// them.
 #[derive(Clone, Copy, Debug)]
 pub struct Shape {
     pub curve: Curve,
@@ -67,18 +76,41 @@ impl Shape {
         curve.orders().map(move |m| Shape::of(curve, m))
     }
 
-    /// The shape of every accepted order of both curves of short blocks.
+    /// The shape of every accepted order of both curves of short blocks, in series 1.
     pub fn every_short() -> impl Iterator<Item = Shape> {
-        Curve::SHORT.into_iter().flat_map(Shape::every_order)
+        Shape::every_short_in(Series::One)
     }
 
-    /// The shape of every order at which words are mended, with its t.
+    pub fn every_short_in(series: Series) -> impl Iterator<Item = Shape> {
+        let curves = short_curves(series).into_iter();
+        curves.flat_map(Shape::every_order)
+    }
+
+    pub fn every_short_in_both_series() -> impl Iterator<Item = Shape> {
+        Series::BOTH.into_iter().flat_map(Shape::every_short_in)
+    }
+
+    /// The shape of every order at which words are mended, with its t, in series 1.
     pub fn every_mended() -> impl Iterator<Item = (Shape, usize)> {
-        Shape::every_short().filter_map(|shape| Some((shape, shape.curve.radius(shape.m)?)))
+        Shape::every_mended_in(Series::One)
+    }
+
+    pub fn every_mended_in(series: Series) -> impl Iterator<Item = (Shape, usize)> {
+        Shape::every_short_in(series)
+            .filter_map(|shape| Some((shape, shape.curve.radius(shape.m)?)))
     }
 
     pub fn q(self) -> u8 {
         self.curve.q()
+    }
+
+    pub fn series(self) -> u8 {
+        self.curve.series().number()
+    }
+
+    /// q, the series and m, as calls take them.
+    pub fn numbers(self) -> (u8, u8, u16) {
+        (self.q(), self.series(), self.m)
     }
 
     /// m / q: the product of x - a over so many columns a has order m or less, and
@@ -89,8 +121,9 @@ impl Shape {
 
     /// Any order below n gets its word, so the outcome needs no look.
     pub fn word_of(self, message: &[u8]) -> Vec<u8> {
+        let (q, series, m) = self.numbers();
         let mut word = vec![0; self.n];
-        code::encode(self.q(), self.m, message, &mut word);
+        code::encode(q, series, m, message, &mut word);
         word
     }
 }
@@ -174,8 +207,9 @@ pub fn with_wrong(generator: &mut Generator, shape: Shape, word: &[u8], count: u
 /// nowhere else. The product of x - a over these columns a is added.
 pub fn neighbour(generator: &mut Generator, shape: Shape, codeword: &[u8]) -> Vec<u8> {
     let field = shape.curve.field();
-    let mut columns = generator.permutation(usize::from(shape.field_size));
-    columns.truncate(shape.columns_of_order());
+    let columns = generator.permutation(usize::from(shape.field_size));
+    let columns = columns.into_iter().take(shape.columns_of_order());
+    let columns: Vec<u8> = columns.map(|x| x as u8).collect();
     let points = shape.curve.points();
     let places = points.iter().zip(codeword);
     places
@@ -184,12 +218,10 @@ pub fn neighbour(generator: &mut Generator, shape: Shape, codeword: &[u8]) -> Ve
 }
 
 /// The product of x - a over the columns a.
-fn column_product(shape: Shape, columns: &[usize], x: u8) -> u8 {
+fn column_product(shape: Shape, columns: &[u8], x: u8) -> u8 {
     let field = shape.curve.field();
     let columns = columns.iter();
-    columns.fold(1, |product, &a| {
-        field.product(product, field.sum(x, a as u8))
-    })
+    columns.fold(1, |product, &a| field.product(product, field.sum(x, a)))
 }
 
 /// The word with the other's symbols at the first `count` places where they
@@ -249,7 +281,7 @@ mod tests {
     #[test]
     fn broken_words_keep_the_known_symbols() {
         let mut generator = Generator::with_seed(41);
-        for shape in Shape::every_short() {
+        for shape in Shape::every_short_in_both_series() {
             let word = codeword(&mut generator, shape);
             let known = generator.below(shape.n + 1);
             let broken = with_known(&mut generator, &word, known);
@@ -295,7 +327,7 @@ mod tests {
     #[test]
     fn as_many_symbols_are_wrong_as_asked_for() {
         let mut generator = Generator::with_seed(43);
-        for shape in Shape::every_short() {
+        for shape in Shape::every_short_in_both_series() {
             for count in 0..=shape.n {
                 let word = symbols(&mut generator, shape, shape.n);
                 let wrong = with_wrong(&mut generator, shape, &word, count);
@@ -309,13 +341,13 @@ mod tests {
     #[test]
     fn a_neighbour_agrees_on_m_by_q_columns() {
         let mut generator = Generator::with_seed(44);
-        for shape in Shape::every_short() {
+        for shape in Shape::every_short_in_both_series() {
             let word = codeword(&mut generator, shape);
             let other = neighbour(&mut generator, shape, &word);
             let agreeing = word.iter().zip(&other).filter(|(a, b)| a == b).count();
             assert_eq!(agreeing, shape.columns_of_order() * usize::from(shape.q()));
-            let mut message = vec![0; shape.k];
-            let outcome = code::unencode(shape.q(), shape.m, &other, &mut message);
+            let (q, series, m) = shape.numbers();
+            let outcome = code::unencode(q, series, m, &other, &mut vec![0; shape.k]);
             assert_eq!(outcome, Outcome::ACCEPTED);
             let differing = shape.n - agreeing;
             let between = on_the_way(&word, &other, differing - 1);

@@ -18,6 +18,7 @@ pub const CONFLICT: u8 = 254;
 #[derive(Clone, Copy, Debug, PartialEq, Eq)]
 pub struct Session {
     pub q: u8,
+    pub series: u8,
     pub m: u16,
     pub places: [u8; PLACE_COUNT],
     /// The highest round received at each place (request T-04: heard there).
@@ -26,20 +27,21 @@ pub struct Session {
 
 impl Session {
     /// What a refused opening hands back.
-    pub const OF_REFUSED_OPENING: Session = Session::with_all_missing(2, 0);
+    pub const OF_REFUSED_OPENING: Session = Session::with_all_missing(2, 1, 0);
 
-    const fn with_all_missing(q: u8, m: u16) -> Session {
+    const fn with_all_missing(q: u8, series: u8, m: u16) -> Session {
         Session {
             q,
+            series,
             m,
             places: [MISSING; PLACE_COUNT],
             rounds: [0; PLACE_COUNT],
         }
     }
 
-    pub fn open(q: u8, m: u16) -> (Session, Outcome) {
-        match checks::short_curve_and_order(q, m) {
-            Ok(_) => (Session::with_all_missing(q, m), Outcome::ACCEPTED),
+    pub fn open(q: u8, series: u8, m: u16) -> (Session, Outcome) {
+        match checks::short_curve_and_order(q, series, m) {
+            Ok(_) => (Session::with_all_missing(q, series, m), Outcome::ACCEPTED),
             Err(refusal) => (Session::OF_REFUSED_OPENING, refusal),
         }
     }
@@ -53,11 +55,14 @@ impl Session {
         }
     }
 
-    /// Recovery from the stored q, m and first n places, a conflict being
-    /// missing.
+    /// Recovery from the stored q, series, m and first n places, a conflict
+    /// being missing.
     pub fn ask(&self, message: &mut [u8]) -> Outcome {
         match Curve::short_named(self.q) {
-            Some(curve) => code::recover(self.q, self.m, &self.received_word(curve), message),
+            Some(curve) => {
+                let word = self.received_word(curve);
+                code::recover(self.q, self.series, self.m, &word, message)
+            }
             None => Outcome::UNKNOWN_CURVE,
         }
     }
@@ -65,13 +70,16 @@ impl Session {
     /// Opens a job from what asking takes, a conflict being missing.
     pub fn job(&self) -> (Job, Outcome) {
         match Curve::short_named(self.q) {
-            Some(curve) => Job::open(self.q, self.m, &self.received_word(curve)),
+            Some(curve) => {
+                let word = self.received_word(curve);
+                Job::open(self.q, self.series, self.m, &word)
+            }
             None => (Job::OF_REFUSED_OPENING, Outcome::UNKNOWN_CURVE),
         }
     }
 
     fn check_arrival(&self, place: u16, symbol: u8) -> Result<(), Outcome> {
-        let curve = checks::short_curve_and_order(self.q, self.m)?;
+        let curve = checks::short_curve_and_order(self.q, self.series, self.m)?;
         checks::symbols_or_missing(curve.field(), &self.received_word(curve))?;
         if usize::from(place) >= curve.point_count() {
             return Err(Outcome::PLACE_TOO_HIGH);
@@ -113,16 +121,21 @@ mod tests {
     use crate::job::Reply;
     use crate::sample::{self, Shape};
 
-    fn opened(q: u8, m: u16) -> Session {
-        let (session, outcome) = Session::open(q, m);
+    fn opened(q: u8, series: u8, m: u16) -> Session {
+        let (session, outcome) = Session::open(q, series, m);
         assert_eq!(outcome, Outcome::ACCEPTED);
         session
     }
 
+    fn opened_shaped(shape: Shape) -> Session {
+        opened(shape.q(), shape.series(), shape.m)
+    }
+
     /// The same value and round at every place.
-    fn with_one_value(q: u8, m: u16, value: u8, round: u8) -> Session {
+    fn with_one_value(q: u8, series: u8, m: u16, value: u8, round: u8) -> Session {
         Session {
             q,
+            series,
             m,
             places: [value; PLACE_COUNT],
             rounds: [round; PLACE_COUNT],
@@ -162,27 +175,60 @@ mod tests {
     fn opening_marks_all_64_places_missing() {
         for q in 0..=255 {
             for m in (0..=320).chain([0x0503, 0xFF00, 0xFF25, u16::MAX]) {
-                let (session, outcome) = Session::open(q, m);
-                match (q, m) {
-                    (2, 0..=7) | (4, 0..=63) => {
-                        assert_eq!(outcome, Outcome::ACCEPTED);
-                        assert_eq!((session.q, session.m), (q, m));
-                    }
-                    (2 | 4, _) => assert_eq!(outcome, Outcome::ORDER_TOO_HIGH),
-                    _ => assert_eq!(outcome, Outcome::UNKNOWN_CURVE),
+                for series in [0, 1, 2, 3, 255] {
+                    check_opening(q, series, m);
                 }
-                if outcome != Outcome::ACCEPTED {
-                    assert_eq!((session.q, session.m), (2, 0));
-                }
-                assert_eq!(session.places, [255; 64]);
-                assert_eq!(session.rounds, [0; 64]);
             }
+            for series in 0..=255 {
+                check_opening(q, series, 7);
+            }
+        }
+    }
+
+    fn check_opening(q: u8, series: u8, m: u16) {
+        let (session, outcome) = Session::open(q, series, m);
+        match (q, series, m) {
+            (2, 1 | 2, 0..=7) | (4, 1 | 2, 0..=63) => {
+                assert_eq!(outcome, Outcome::ACCEPTED);
+                assert_eq!((session.q, session.series, session.m), (q, series, m));
+            }
+            (2 | 4, 1 | 2, _) => assert_eq!(outcome, Outcome::ORDER_TOO_HIGH),
+            (2 | 4, _, _) => assert_eq!(outcome, Outcome::BAD_SERIES),
+            _ => assert_eq!(outcome, Outcome::UNKNOWN_CURVE),
+        }
+        if outcome != Outcome::ACCEPTED {
+            assert_eq!((session.q, session.series, session.m), (2, 1, 0));
+        }
+        assert_eq!(session.places, [255; 64]);
+        assert_eq!(session.rounds, [0; 64]);
+    }
+
+    /// Two symbols of x, the message 0 1 of order 4, in the columns 3 and 15.
+    #[test]
+    fn a_session_keeps_its_series() {
+        for (series, symbols) in [(1, [3, 15]), (2, [4, 9])] {
+            let arrivals = [(12, symbols[0]), (60, symbols[1])];
+            let mut session = after_arrivals(opened(4, series, 4), &arrivals);
+            assert_eq!(session.series, series);
+            assert_eq!(session.job().0.series(), series);
+            let mut message = [9; 2];
+            assert_eq!(session.ask(&mut message), Outcome::ACCEPTED);
+            assert_eq!(message, [0, 1]);
+            let (_, _, reply) = session.job().0.carry_on(2, &mut message);
+            assert_eq!(
+                (reply, message),
+                (Reply::Finished(Outcome::ACCEPTED), [0, 1])
+            );
+            // Another message fits the same places in the other series.
+            session.series = 3 - series;
+            assert_eq!(session.ask(&mut message), Outcome::ACCEPTED);
+            assert_ne!(message, [0, 1]);
         }
     }
 
     #[test]
     fn value_h_in_a_session() {
-        let session = after_arrivals(opened(2, 3), &[(0, 0), (4, 0), (7, 0)]);
+        let session = after_arrivals(opened(2, 1, 3), &[(0, 0), (4, 0), (7, 0)]);
         let mut message = [9; 3];
         let outcome = session.ask(&mut message);
         assert_eq!(outcome, Outcome::several_messages_fit(1));
@@ -195,9 +241,9 @@ mod tests {
 
     #[test]
     fn nothing_arrived_at_every_order() {
-        for shape in Shape::every_short() {
+        for shape in Shape::every_short_in_both_series() {
             let mut message = vec![7; shape.k];
-            let outcome = opened(shape.q(), shape.m).ask(&mut message);
+            let outcome = opened_shaped(shape).ask(&mut message);
             assert_eq!(outcome.number, 10);
             assert_eq!(usize::from(outcome.second), shape.k);
             assert_eq!(message, vec![7; shape.k]);
@@ -206,16 +252,21 @@ mod tests {
 
     #[test]
     fn the_same_symbol_again_is_accepted_and_changes_nothing() {
-        let session = after_arrivals(opened(4, 37), &[(63, 15)]);
+        let session = after_arrivals(opened(4, 1, 37), &[(63, 15)]);
         assert_eq!(session.places[63], 15);
         assert_eq!(after_arrivals(session, &[(63, 15)]), session);
     }
 
     #[test]
     fn arrivals_are_refused_in_the_order_of_the_checks() {
-        let mut session = with_one_value(3, 64, 253, 0);
+        let mut session = with_one_value(3, 0, 64, 253, 0);
         assert_eq!(refused_arrival(session, 64, 16), Outcome::UNKNOWN_CURVE);
         session.q = 4;
+        for series in sample::BAD_SERIES {
+            session.series = series;
+            assert_eq!(refused_arrival(session, 64, 16), Outcome::BAD_SERIES);
+        }
+        session.series = 2;
         for m in [64, 255, 256, 256 + 37, u16::MAX] {
             session.m = m;
             assert_eq!(refused_arrival(session, 64, 16), Outcome::ORDER_TOO_HIGH);
@@ -236,7 +287,7 @@ mod tests {
 
     #[test]
     fn a_differing_symbol_of_the_same_round_is_a_conflict() {
-        let session = after_arrivals(opened(4, 37), &[(5, 1)]);
+        let session = after_arrivals(opened(4, 1, 37), &[(5, 1)]);
         let conflict = after_arrivals(session, &[(5, 2)]);
         assert_eq!(conflict.places[5], 254);
         for symbol in 0..16 {
@@ -253,7 +304,7 @@ mod tests {
 
     #[test]
     fn the_round_is_compared_first() {
-        let session = after_rounds(opened(4, 37), &[(5, 1, 3)]);
+        let session = after_rounds(opened(4, 1, 37), &[(5, 1, 3)]);
         assert_eq!(held_at(&session, 5), (1, 3));
         let stored = |symbol, round| held_at(&after_rounds(session, &[(5, symbol, round)]), 5);
         for symbol in [1, 2] {
@@ -268,7 +319,7 @@ mod tests {
 
     #[test]
     fn a_conflict_keeps_its_round_until_a_higher_one() {
-        let conflict = after_rounds(opened(4, 37), &[(5, 1, 3), (5, 2, 3)]);
+        let conflict = after_rounds(opened(4, 1, 37), &[(5, 1, 3), (5, 2, 3)]);
         for symbol in 0..16 {
             let unchanged = after_rounds(conflict, &[(5, symbol, 2), (5, symbol, 3)]);
             assert_eq!(unchanged, conflict);
@@ -279,7 +330,7 @@ mod tests {
 
     #[test]
     fn a_missing_place_takes_any_round() {
-        let mut session = opened(4, 37);
+        let mut session = opened(4, 1, 37);
         session.rounds[5] = 200;
         for round in [0, 199, 200, 201] {
             let after = after_rounds(session, &[(5, 1, round)]);
@@ -289,7 +340,7 @@ mod tests {
 
     #[test]
     fn conflicts_are_no_bad_values_and_count_as_missing() {
-        let mut session = opened(2, 3);
+        let mut session = opened(2, 1, 3);
         session.places[..8].copy_from_slice(&[0, 1, 254, 254, 0, 254, 255, 0]);
         let mut message = [0; 3];
         assert_eq!(session.ask(&mut message), Outcome::ACCEPTED);
@@ -303,10 +354,10 @@ mod tests {
     #[test]
     fn m_plus_1_places_without_conflict_are_enough() {
         let mut generator = Generator::with_seed(33);
-        for shape in Shape::every_short() {
+        for shape in Shape::every_short_in_both_series() {
             let message = sample::message(&mut generator, shape);
             let word = shape.word_of(&message);
-            let mut session = opened(shape.q(), shape.m);
+            let mut session = opened_shaped(shape);
             let places = generator.permutation(shape.n);
             for (index, &place) in places.iter().enumerate() {
                 let right = (place as u16, word[place]);
@@ -334,15 +385,15 @@ mod tests {
             let arrivals: Vec<(u16, u8, u8)> = (0..12).map(arrival).collect();
             let order = generator.permutation(arrivals.len());
             let reordered: Vec<_> = order.iter().map(|&index| arrivals[index]).collect();
-            let end = after_rounds(opened(2, 3), &arrivals);
-            assert_eq!(after_rounds(opened(2, 3), &reordered), end);
+            let end = after_rounds(opened(2, 1, 3), &arrivals);
+            assert_eq!(after_rounds(opened(2, 1, 3), &reordered), end);
             assert_eq!(after_rounds(end, &reordered), end);
         }
     }
 
     #[test]
     fn askings_are_refused_in_the_order_of_the_checks() {
-        let mut session = with_one_value(255, 8, 4, 255);
+        let mut session = with_one_value(255, 3, 8, 4, 255);
         let ask = |session: &Session, length: usize| {
             let mut message = vec![200; length];
             let outcome = session.ask(&mut message);
@@ -351,6 +402,11 @@ mod tests {
         };
         assert_eq!(ask(&session, 99), Outcome::UNKNOWN_CURVE);
         session.q = 2;
+        for series in sample::BAD_SERIES {
+            session.series = series;
+            assert_eq!(ask(&session, 99), Outcome::BAD_SERIES);
+        }
+        session.series = 2;
         for m in [8, 255, 256, 256 + 7, u16::MAX] {
             session.m = m;
             assert_eq!(ask(&session, 99), Outcome::ORDER_TOO_HIGH);
@@ -376,9 +432,14 @@ mod tests {
 
     #[test]
     fn jobs_are_refused_in_the_order_of_the_checks() {
-        let mut session = with_one_value(255, 8, 4, 255);
+        let mut session = with_one_value(255, 0, 8, 4, 255);
         assert_eq!(refused_job(&session), Outcome::UNKNOWN_CURVE);
         session.q = 2;
+        for series in sample::BAD_SERIES {
+            session.series = series;
+            assert_eq!(refused_job(&session), Outcome::BAD_SERIES);
+        }
+        session.series = 2;
         for m in [8, 255, 256, 256 + 7, u16::MAX] {
             session.m = m;
             assert_eq!(refused_job(&session), Outcome::ORDER_TOO_HIGH);
@@ -395,10 +456,10 @@ mod tests {
     /// A conflict is missing, and the places from n on are missing in the job.
     #[test]
     fn a_job_of_a_session_is_that_of_its_received_word() {
-        let mut session = with_one_value(2, 3, 77, 5);
+        let mut session = with_one_value(2, 2, 3, 77, 5);
         session.places[..8].copy_from_slice(&[0, 1, 254, 254, 0, 254, 255, 0]);
         let received = [0, 1, 255, 255, 0, 255, 255, 0];
-        assert_eq!(session.job(), Job::open(2, 3, &received));
+        assert_eq!(session.job(), Job::open(2, 2, 3, &received));
         let mut message = [9; 3];
         let (_, brought, reply) = session.job().0.carry_on(255, &mut message);
         assert_eq!((brought, reply), (4, Reply::Finished(Outcome::ACCEPTED)));
@@ -408,9 +469,9 @@ mod tests {
     #[test]
     fn a_finished_job_says_what_asking_says() {
         let mut generator = Generator::with_seed(35);
-        for shape in Shape::every_short().flat_map(|shape| [shape; 4]) {
+        for shape in Shape::every_short_in_both_series().flat_map(|shape| [shape; 4]) {
             let word = sample::codeword(&mut generator, shape);
-            let mut session = opened(shape.q(), shape.m);
+            let mut session = opened_shaped(shape);
             for _ in 0..generator.below(2 * shape.n) {
                 let place = generator.below(shape.n);
                 let another = sample::another_symbol(&mut generator, shape, word[place]);
@@ -430,7 +491,7 @@ mod tests {
 
     #[test]
     fn places_from_n_on_are_never_read() {
-        let mut session = opened(2, 3);
+        let mut session = opened(2, 1, 3);
         for (index, held) in session.places.iter_mut().enumerate().skip(8) {
             *held = 190 + index as u8;
             session.rounds[index] = index as u8;
@@ -456,6 +517,7 @@ mod tests {
             rounds.fill_with(|| generator.byte());
             let session = Session {
                 q: [2, 4, 0, 3][turn % 4],
+                series: [1, 2, 0, 3, 255][turn % 5],
                 m: generator.sixteen_bits(),
                 places,
                 rounds,
@@ -515,19 +577,24 @@ mod tests {
         for m in (0..5).cycle().take(600) {
             compare_with_model(&mut generator, Shape::of(Curve::Q_IS_2, m));
         }
+        for curve in Curve::Q_IS_4.in_both_series() {
+            for m in [0, 4, 4, 4, 5] {
+                compare_with_model(&mut generator, Shape::of(curve, m));
+            }
+        }
     }
 
     fn compare_with_model(generator: &mut Generator, shape: Shape) {
         let words = sample::all_messages_with_words(shape);
         let (_, target) = words[generator.below(words.len())].clone();
-        let mut session = opened(shape.q(), shape.m);
+        let mut session = opened_shaped(shape);
         let mut model = Model {
             accepted: vec![Vec::new(); shape.n],
             field_size: shape.field_size,
         };
         for _ in 0..20 {
-            let place = generator.below(10);
-            let arbitrary = generator.below(6) as u8;
+            let place = generator.below(shape.n + 2);
+            let arbitrary = generator.below(usize::from(shape.field_size) + 2) as u8;
             let follows_target = place < shape.n && generator.below(8) > 0;
             let symbol = if follows_target {
                 target[place]
@@ -565,7 +632,8 @@ mod tests {
             several => {
                 assert!(model.symbol_count() <= usize::from(shape.m));
                 assert_eq!(outcome.number, 10);
-                assert_eq!(4usize.pow(u32::from(outcome.second)), several.len());
+                let size = usize::from(shape.field_size);
+                assert_eq!(size.pow(u32::from(outcome.second)), several.len());
             }
         }
     }

@@ -8,6 +8,7 @@ mod ordinary;
 mod places;
 
 use crate::case_record::Case;
+use crate::curve::Series;
 use crate::generator::Generator;
 use crate::replay::arrival_bytes;
 use crate::sample::{self, Shape, ROUNDS};
@@ -20,8 +21,9 @@ const MOST_ARRIVALS: usize = 18;
 
 const BUDGETS: [u8; 7] = [0, 1, 2, 7, 20, 64, 255];
 
-pub fn sixteen_bit_cases() -> Vec<Case> {
+pub fn sixteen_bit_cases(series: Series) -> Vec<Case> {
     let mut builder = Builder {
+        series,
         generator: Generator::with_seed(SEED),
         cases: Vec::new(),
     };
@@ -35,6 +37,7 @@ pub fn sixteen_bit_cases() -> Vec<Case> {
 }
 
 struct Builder {
+    series: Series,
     generator: Generator,
     cases: Vec<Case>,
 }
@@ -42,12 +45,13 @@ struct Builder {
 /// Cases of one call each. Slices hold arbitrary bytes before it, so that a refusal
 /// that writes is seen.
 impl Builder {
-    /// `op` is `e`, `u`, `r` or `p`.
+    /// `op` is `e`, `u`, `r`, `p` or `j`.
     fn call(&mut self, op: u8, q: u8, m: u16, input: &[u8], length: usize) {
         let output = self.generator.bytes(length);
         self.cases.push(Case {
             op,
             q,
+            series: self.series.number(),
             m,
             input: input.to_vec(),
             output,
@@ -62,6 +66,7 @@ impl Builder {
         self.cases.push(Case {
             op: b't',
             q,
+            series: self.series.number(),
             m,
             a,
             b,
@@ -73,7 +78,8 @@ impl Builder {
     }
 
     fn open(&mut self, q: u8, m: u16) {
-        self.cases.push(Case::of_opening(q, m));
+        let series = self.series.number();
+        self.cases.push(Case::of_opening(q, series, m));
     }
 
     /// A session with these places, those from n on missing, and arbitrary rounds.
@@ -83,6 +89,7 @@ impl Builder {
         let rounds = [(); PLACE_COUNT].map(|()| self.round());
         let session = Session {
             q,
+            series: self.series.number(),
             m,
             places,
             rounds,
@@ -95,7 +102,12 @@ impl Builder {
     }
 
     fn ask(&mut self, length: usize) {
-        self.call(b'k', 0, 0, &[], length);
+        let output = self.generator.bytes(length);
+        self.cases.push(Case {
+            op: b'k',
+            output,
+            ..Case::default()
+        });
     }
 
     fn open_job(&mut self, q: u8, m: u16, word: &[u8]) {
@@ -103,7 +115,10 @@ impl Builder {
     }
 
     fn open_job_from_session(&mut self) {
-        self.call(b'J', 0, 0, &[], 0);
+        self.cases.push(Case {
+            op: b'J',
+            ..Case::default()
+        });
     }
 
     fn carry_on(&mut self, budget: u8, length: usize) {
@@ -158,7 +173,8 @@ mod tests {
             let line = runner.run(&case);
             (case, line)
         };
-        sixteen_bit_cases().into_iter().map(with_line).collect()
+        let cases = Series::BOTH.into_iter().flat_map(sixteen_bit_cases);
+        cases.map(with_line).collect()
     }
 
     fn number(line: &str) -> u8 {
@@ -168,12 +184,14 @@ mod tests {
 
     #[test]
     fn the_cases_are_reproducible_and_fit_their_records() {
-        let cases = sixteen_bit_cases();
-        assert_eq!(cases, sixteen_bit_cases());
-        assert!((3000..=4500).contains(&cases.len()), "{}", cases.len());
-        for case in &cases {
-            let record: [u8; RECORD_LENGTH] = case.to_record();
-            assert_eq!(&Case::from_record(&record), case);
+        for series in Series::BOTH {
+            let cases = sixteen_bit_cases(series);
+            assert_eq!(cases, sixteen_bit_cases(series));
+            assert!((3000..=4500).contains(&cases.len()), "{}", cases.len());
+            for case in &cases {
+                let record: [u8; RECORD_LENGTH] = case.to_record();
+                assert_eq!(&Case::from_record(&record), case);
+            }
         }
     }
 
@@ -181,11 +199,12 @@ mod tests {
     #[test]
     fn every_call_refuses_every_order_that_is_too_high() {
         let found = cases_and_lines();
-        for curve in Curve::SHORT {
+        for curve in Curve::SHORT.into_iter().flat_map(Curve::in_both_series) {
             for m in sample::numbers_too_high(curve) {
+                let numbers = (curve.q(), curve.series().number(), m);
                 let of_order = found
                     .iter()
-                    .filter(|(case, _)| (case.q, case.m) == (curve.q(), m));
+                    .filter(|(case, _)| (case.q, case.series, case.m) == numbers);
                 let refused = of_order.filter(|(_, line)| number(line) == 2);
                 let ops: BTreeSet<u8> = refused.map(|(case, _)| case.op).collect();
                 assert_eq!(ops, BTreeSet::from(*b"eurmojpt"), "{} {m}", curve.q());
@@ -196,10 +215,12 @@ mod tests {
     /// So the order alone decides.
     #[test]
     fn a_look_at_the_low_byte_of_an_order_would_find_no_fault() {
-        let cases = sixteen_bit_cases();
-        for shape in Shape::every_short() {
-            let q_and_m = (shape.q(), shape.m + 256);
-            let of_order = cases.iter().filter(|case| (case.q, case.m) == q_and_m);
+        let cases = Series::BOTH.map(sixteen_bit_cases).concat();
+        for shape in Shape::every_short_in_both_series() {
+            let numbers = (shape.q(), shape.series(), shape.m + 256);
+            let of_order = cases
+                .iter()
+                .filter(|case| (case.q, case.series, case.m) == numbers);
             let cut = of_order.map(|case| Case {
                 m: shape.m,
                 ..case.clone()
@@ -220,7 +241,7 @@ mod tests {
     #[test]
     fn an_order_above_255_meets_2_or_before_it_1() {
         let mut runner = Runner::default();
-        for case in sixteen_bit_cases() {
+        for case in Series::BOTH.into_iter().flat_map(sixteen_bit_cases) {
             let Session { q, m, .. } = *runner.session();
             let line = runner.run(&case);
             let (q, m) = match case.op {
@@ -243,23 +264,24 @@ mod tests {
     fn arrivals_at_places_that_are_too_high_meet_every_earlier_refusal_and_6() {
         let mut runner = Runner::default();
         let mut found = BTreeSet::new();
-        for case in sixteen_bit_cases() {
-            let q = runner.session().q;
+        for case in Series::BOTH.into_iter().flat_map(sixteen_bit_cases) {
+            let Session { q, series, .. } = *runner.session();
             let line = runner.run(&case);
             if case.op == b'a' && case.place > 255 {
-                found.insert((q, case.place, number(&line)));
+                found.insert((q, series, case.place, number(&line)));
             }
         }
-        for curve in Curve::SHORT {
+        for curve in Curve::SHORT.into_iter().flat_map(Curve::in_both_series) {
+            let (q, series) = (curve.q(), curve.series().number());
             for place in sample::numbers_too_high(curve) {
                 if place > 255 {
                     for refusal in [4, 6] {
-                        assert!(found.contains(&(curve.q(), place, refusal)), "{place}");
+                        assert!(found.contains(&(q, series, place, refusal)), "{place}");
                     }
                 }
             }
         }
-        let refusals: BTreeSet<u8> = found.iter().map(|&(_, _, number)| number).collect();
+        let refusals: BTreeSet<u8> = found.iter().map(|&(_, _, _, number)| number).collect();
         assert_eq!(refusals, BTreeSet::from([1, 2, 4, 6]));
     }
 
@@ -268,14 +290,14 @@ mod tests {
     fn whole_sessions_and_turns_give_messages_at_every_order() {
         let found = cases_and_lines();
         let accepted = found.iter().filter(|(_, line)| number(line) == 0);
-        let accepted: BTreeSet<(u8, u8, u16)> = accepted
-            .map(|(case, _)| (case.op, case.q, case.m))
+        let accepted: BTreeSet<(u8, u8, u8, u16)> = accepted
+            .map(|(case, _)| (case.op, case.q, case.series, case.m))
             .collect();
-        for shape in Shape::every_short() {
-            let (q, m) = (shape.q(), shape.m);
-            assert!(accepted.contains(&(b't', q, m)), "{q} {m}");
-            let has_room = usize::from(m) < MOST_ARRIVALS;
-            assert!(!has_room || accepted.contains(&(b'p', q, m)), "{q} {m}");
+        for shape in Shape::every_short_in_both_series() {
+            let is_accepted = |op| accepted.contains(&(op, shape.q(), shape.series(), shape.m));
+            assert!(is_accepted(b't'), "{shape:?}");
+            let has_room = usize::from(shape.m) < MOST_ARRIVALS;
+            assert!(!has_room || is_accepted(b'p'), "{shape:?}");
         }
     }
 

@@ -12,18 +12,26 @@ use crate::linear;
 use crate::outcome::Outcome;
 
 /// Writes the only codeword that has the symbols at the places, both in turn.
-pub fn encode_at(q: u8, m: u16, places: &[u16], symbols: &[u8], word: &mut [u8]) -> Outcome {
-    Outcome::from(try_encode_at(q, m, places, symbols, word))
+pub fn encode_at(
+    q: u8,
+    series: u8,
+    m: u16,
+    places: &[u16],
+    symbols: &[u8],
+    word: &mut [u8],
+) -> Outcome {
+    Outcome::from(try_encode_at(q, series, m, places, symbols, word))
 }
 
 fn try_encode_at(
     q: u8,
+    series: u8,
     m: u16,
     places: &[u16],
     symbols: &[u8],
     word: &mut [u8],
 ) -> Result<(), Outcome> {
-    let curve = checks::short_curve_and_order(q, m)?;
+    let curve = checks::short_curve_and_order(q, series, m)?;
     let code = Code::of_order(curve, m);
     let (n, k) = (code.points.len(), code.terms.len());
     checks::places(places, k, n)?;
@@ -58,6 +66,7 @@ mod tests {
     /// The word of a call, or its refusal after a look that nothing was written.
     fn run(
         q: u8,
+        series: u8,
         m: u16,
         places: &[u16],
         symbols: &[u8],
@@ -65,7 +74,7 @@ mod tests {
     ) -> Result<Vec<u8>, Outcome> {
         let before: Vec<u8> = (100..).take(length).collect();
         let mut word = before.clone();
-        match encode_at(q, m, places, symbols, &mut word) {
+        match encode_at(q, series, m, places, symbols, &mut word) {
             Outcome::ACCEPTED => Ok(word),
             refusal => {
                 assert_eq!(word, before, "a refusal leaves lent memory unchanged");
@@ -75,7 +84,8 @@ mod tests {
     }
 
     fn run_shaped(shape: Shape, places: &[u16], symbols: &[u8]) -> Result<Vec<u8>, Outcome> {
-        run(shape.q(), shape.m, places, symbols, shape.n)
+        let (q, series) = (shape.q(), shape.series());
+        run(q, series, shape.m, places, symbols, shape.n)
     }
 
     /// Places of the small curve, by the bits of a number.
@@ -87,18 +97,37 @@ mod tests {
     #[test]
     fn value_e_from_three_of_its_symbols() {
         let word = vec![1, 2, 2, 1, 3, 0, 1, 2];
-        assert_eq!(run(2, 3, &[0, 1, 2], &[1, 2, 2], 8), Ok(word.clone()));
-        assert_eq!(run(2, 3, &[5, 6, 7], &[0, 1, 2], 8), Ok(word));
+        for series in [1, 2] {
+            let first = run(2, series, 3, &[0, 1, 2], &[1, 2, 2], 8);
+            assert_eq!(first, Ok(word.clone()));
+            let last = run(2, series, 3, &[5, 6, 7], &[0, 1, 2], 8);
+            assert_eq!(last, Ok(word.clone()));
+        }
     }
 
     /// Values G and H of the paper: zeros there leave two or more messages.
     #[test]
     fn the_places_of_values_g_and_h_leave_several() {
         for symbols in [[0, 0], [0, 1], [3, 2]] {
-            assert_eq!(run(2, 2, &[0, 1], &symbols, 8), LEAVE_SEVERAL);
+            assert_eq!(run(2, 1, 2, &[0, 1], &symbols, 8), LEAVE_SEVERAL);
         }
         for symbols in [[0, 0, 0], [1, 2, 3]] {
-            assert_eq!(run(2, 3, &[0, 4, 7], &symbols, 8), LEAVE_SEVERAL);
+            assert_eq!(run(2, 1, 3, &[0, 4, 7], &symbols, 8), LEAVE_SEVERAL);
+        }
+    }
+
+    /// x, the word of the message 0 1 of order 4, from its symbols in the columns 3
+    /// and 15.
+    #[test]
+    fn each_series_has_its_own_places() {
+        for (curve, symbols) in Curve::Q_IS_4
+            .in_both_series()
+            .into_iter()
+            .zip([[3, 15], [4, 9]])
+        {
+            let shape = Shape::of(curve, 4);
+            let word = run_shaped(shape, &[12, 60], &symbols);
+            assert_eq!(word, Ok(shape.word_of(&[0, 1])));
         }
     }
 
@@ -136,13 +165,14 @@ mod tests {
     fn arbitrary_places_agree_with_recovery_at_every_order() {
         let mut generator = Generator::with_seed(61);
         let mut refused = 0;
-        for shape in Shape::every_short() {
+        for shape in Shape::every_short_in_both_series() {
             for _ in 0..16 {
                 let word = sample::codeword(&mut generator, shape);
                 let places = places::arbitrary(&mut generator, shape);
                 let broken = places::known_at(&places, &word);
                 let mut message = vec![0; shape.k];
-                let recovery = code::recover(shape.q(), shape.m, &broken, &mut message);
+                let (q, series) = (shape.q(), shape.series());
+                let recovery = code::recover(q, series, shape.m, &broken, &mut message);
                 let expected = match recovery.number {
                     0 => Ok(word.clone()),
                     number => {
@@ -161,13 +191,14 @@ mod tests {
     #[test]
     fn the_symbols_stand_at_the_places_and_unencoding_works() {
         let mut generator = Generator::with_seed(62);
-        for shape in Shape::every_short() {
+        for shape in Shape::every_short_in_both_series() {
             let places = places::staircase(&mut generator, shape);
             let symbols = sample::message(&mut generator, shape);
             let word = run_shaped(shape, &places, &symbols).expect("a set that fixes the word");
             assert_eq!(symbols_at(&places, &word), symbols);
             let mut message = vec![0; shape.k];
-            let outcome = code::unencode(shape.q(), shape.m, &word, &mut message);
+            let (q, series) = (shape.q(), shape.series());
+            let outcome = code::unencode(q, series, shape.m, &word, &mut message);
             assert_eq!(outcome, Outcome::ACCEPTED);
             assert_eq!(shape.word_of(&message), word);
         }
@@ -176,7 +207,7 @@ mod tests {
     /// The product of x - a over m / q columns a is 0 on all of them.
     #[test]
     fn places_in_few_columns_leave_several() {
-        for shape in Shape::every_short() {
+        for shape in Shape::every_short_in_both_series() {
             if shape.k <= shape.columns_of_order() * usize::from(shape.q()) {
                 let first: Vec<u16> = (0..shape.k as u16).collect();
                 let zeros = vec![0; shape.k];
@@ -188,29 +219,36 @@ mod tests {
     /// Each call starts with every fault and loses them one by one.
     #[test]
     fn refusals_come_in_the_order_of_the_checks() {
-        for shape in Shape::every_short() {
+        for shape in Shape::every_short_in_both_series() {
             refusals_up_to_the_places(shape);
             refusals_after_the_places(shape);
         }
     }
 
     fn refusals_up_to_the_places(shape: Shape) {
-        let (q, m, n, k) = (shape.q(), shape.m, shape.n, shape.k);
-        let bad_symbols = vec![shape.field_size; k + 1];
-        let bad_places = vec![u16::MAX; k + 1];
-        let refusal = |q, m, places: &[u16]| run(q, m, places, &bad_symbols, n + 1);
+        let (q, series, m) = (shape.q(), shape.series(), shape.m);
+        let bad_symbols = vec![shape.field_size; shape.k + 1];
+        let bad_places = vec![u16::MAX; shape.k + 1];
+        let refusal =
+            |q, series, m, places: &[u16]| run(q, series, m, places, &bad_symbols, shape.n + 1);
         for curve_number in sample::BAD_CURVES {
-            for order in [m, 64, 255, 256 + m, u16::MAX] {
-                let outcome = refusal(curve_number, order, &bad_places);
+            for (series, order) in [(series, m), (0, 64), (3, 255), (1, 256 + m), (2, u16::MAX)] {
+                let outcome = refusal(curve_number, series, order, &bad_places);
                 assert_eq!(outcome, Err(Outcome::UNKNOWN_CURVE));
             }
         }
+        for bad_series in sample::BAD_SERIES {
+            for order in [m, 64, u16::MAX] {
+                let outcome = refusal(q, bad_series, order, &bad_places);
+                assert_eq!(outcome, Err(Outcome::BAD_SERIES));
+            }
+        }
         for order in sample::numbers_too_high(shape.curve) {
-            let outcome = refusal(q, order, &bad_places);
+            let outcome = refusal(q, series, order, &bad_places);
             assert_eq!(outcome, Err(Outcome::ORDER_TOO_HIGH));
         }
         for places in lists_that_are_no_places(shape) {
-            let outcome = refusal(q, m, &places);
+            let outcome = refusal(q, series, m, &places);
             assert_eq!(outcome, Err(Outcome::BAD_PLACES), "{places:?}");
         }
     }
@@ -236,27 +274,28 @@ mod tests {
 
     /// The first k places, which leave several at some orders; 16 comes last.
     fn refusals_after_the_places(shape: Shape) {
-        let (q, m, n, k) = (shape.q(), shape.m, shape.n, shape.k);
+        let Shape { m, n, k, .. } = shape;
+        let (q, series) = (shape.q(), shape.series());
         let places: Vec<u16> = (0..k as u16).collect();
         for length in [0, k - 1, k + 1, n + 1, 300] {
-            let outcome = run(q, m, &places, &vec![255; length], n + 1);
+            let outcome = run(q, series, m, &places, &vec![255; length], n + 1);
             assert_eq!(outcome, Err(Outcome::WRONG_INPUT_LENGTH));
         }
         for index in 0..k {
             for value in [shape.field_size, 254, 255] {
                 let mut symbols = vec![0; k];
                 symbols[index..].fill(value);
-                let outcome = run(q, m, &places, &symbols, n + 1);
+                let outcome = run(q, series, m, &places, &symbols, n + 1);
                 assert_eq!(outcome, Err(Outcome::value_too_high(index as u16)));
             }
         }
         for length in [0, k, n - 1, n + 1, 155] {
             if length != n {
-                let outcome = run(q, m, &places, &vec![0; k], length);
+                let outcome = run(q, series, m, &places, &vec![0; k], length);
                 assert_eq!(outcome, Err(Outcome::WRONG_OUTPUT_LENGTH));
             }
         }
-        let outcome = run(q, m, &places, &vec![0; k], n);
+        let outcome = run(q, series, m, &places, &vec![0; k], n);
         assert!(outcome == Ok(vec![0; n]) || outcome == LEAVE_SEVERAL);
     }
 }

@@ -5,7 +5,7 @@ mod refused;
 
 use crate::case_record::Case;
 use crate::code::{self, MISSING};
-use crate::curve::Curve;
+use crate::curve::Series;
 use crate::generator::Generator;
 use crate::outcome::Outcome;
 use crate::sample::places::{self, symbols_at};
@@ -16,23 +16,24 @@ const SEED: u64 = 10;
 
 /// The cases of all orders, then every single fault at some, and at last orders of n
 /// or more and numbers that name no curve.
-pub fn systematic_cases() -> Vec<Case> {
+pub fn systematic_cases(series: Series) -> Vec<Case> {
     let mut builder = Builder {
         generator: Generator::with_seed(SEED),
         cases: Vec::new(),
     };
-    for shape in Shape::every_short() {
+    for shape in Shape::every_short_in(series) {
         builder.sets_of_places(shape);
         builder.refused_calls(shape);
     }
+    let [small, large] = sample::short_curves(series);
     for m in [3, 6] {
-        builder.every_single_fault(Shape::of(Curve::Q_IS_2, m));
+        builder.every_single_fault(Shape::of(small, m));
     }
     for m in [4, 37] {
-        builder.every_single_fault(Shape::of(Curve::Q_IS_4, m));
+        builder.every_single_fault(Shape::of(large, m));
     }
-    builder.bad_orders();
-    builder.bad_curves();
+    builder.bad_orders(series);
+    builder.bad_curves(series);
     builder.cases
 }
 
@@ -40,6 +41,7 @@ pub fn systematic_cases() -> Vec<Case> {
 #[derive(Clone)]
 struct Call {
     q: u8,
+    series: u8,
     m: u16,
     places: Vec<u16>,
     symbols: Vec<u8>,
@@ -52,6 +54,7 @@ impl Call {
     fn of(shape: Shape, places: &[u16], symbols: Vec<u8>) -> Call {
         Call {
             q: shape.q(),
+            series: shape.series(),
             m: shape.m,
             places: places.to_vec(),
             symbols,
@@ -69,9 +72,15 @@ impl Builder {
     /// The slice is filled with an arbitrary byte that is no symbol.
     fn add(&mut self, call: &Call) {
         let fill = self.generator.byte_from(16, 255);
-        let Call { q, m, .. } = *call;
-        let case = Case::of_encoding_at(q, m, &call.places, &call.symbols, call.length, fill);
-        self.cases.push(case);
+        self.cases.push(Case::of_encoding_at(
+            call.q,
+            call.series,
+            call.m,
+            &call.places,
+            &call.symbols,
+            call.length,
+            fill,
+        ));
     }
 }
 
@@ -139,7 +148,8 @@ fn other_zeros(shape: Shape, places: &[u16], index: usize) -> Vec<u16> {
     let mut symbols = vec![0; shape.k];
     symbols[index] = 1;
     let mut word = vec![0; shape.n];
-    systematic::encode_at(shape.q(), shape.m, places, &symbols, &mut word);
+    let (q, series, m) = shape.numbers();
+    systematic::encode_at(q, series, m, places, &symbols, &mut word);
     let zeros = (0..).zip(&word).filter(|(_, &symbol)| symbol == 0);
     let zeros = zeros.map(|(place, _)| place);
     zeros.filter(|place| !places.contains(place)).collect()
@@ -151,13 +161,15 @@ fn recovery_from(shape: Shape, places: &[u16], symbols: &[u8]) -> Outcome {
     for (&place, &symbol) in places.iter().zip(symbols) {
         word[usize::from(place)] = symbol;
     }
-    code::recover(shape.q(), shape.m, &word, &mut vec![0; shape.k])
+    let (q, series, m) = shape.numbers();
+    code::recover(q, series, m, &word, &mut vec![0; shape.k])
 }
 
 #[cfg(test)]
 mod tests {
     use super::*;
     use crate::case_record::{Runner, RECORD_LENGTH};
+    use crate::curve::Curve;
     use std::collections::{BTreeMap, BTreeSet};
 
     /// Each case with the number of its answer.
@@ -169,7 +181,8 @@ mod tests {
             let number = number.parse().expect("a number of 8 bits");
             (case, number)
         };
-        systematic_cases().into_iter().map(with_number).collect()
+        let cases = Series::BOTH.into_iter().flat_map(systematic_cases);
+        cases.map(with_number).collect()
     }
 
     /// At k = 1 every place fixes the codeword, and so does every set of 7 places of
@@ -180,23 +193,26 @@ mod tests {
 
     #[test]
     fn the_cases_are_reproducible_and_fit_their_records() {
-        let cases = systematic_cases();
-        assert_eq!(cases, systematic_cases());
-        assert!((1500..=2500).contains(&cases.len()), "{}", cases.len());
-        for case in &cases {
-            let record: [u8; RECORD_LENGTH] = case.to_record();
-            assert_eq!(&Case::from_record(&record), case);
-            assert_eq!(case.op, b'E');
+        for series in Series::BOTH {
+            let cases = systematic_cases(series);
+            assert_eq!(cases, systematic_cases(series));
+            assert!((1500..=2500).contains(&cases.len()), "{}", cases.len());
+            for case in &cases {
+                let record: [u8; RECORD_LENGTH] = case.to_record();
+                assert_eq!(&Case::from_record(&record), case);
+                assert_eq!(case.op, b'E');
+            }
         }
     }
 
     #[test]
     fn every_answer_of_every_order_occurs() {
         let found = cases_and_numbers();
-        for shape in Shape::every_short() {
+        for shape in Shape::every_short_in_both_series() {
+            let order = shape.numbers();
             let of_order = found
                 .iter()
-                .filter(|(case, _)| (case.q, case.m) == (shape.q(), shape.m));
+                .filter(|(case, _)| (case.q, case.series, case.m) == order);
             let numbers: BTreeSet<u8> = of_order.map(|&(_, number)| number).collect();
             let mut expected = BTreeSet::from([0, 3, 4, 5, 15]);
             if has_places_that_leave_several(shape) {
@@ -210,32 +226,37 @@ mod tests {
 
     fn shape_of(case: &Case) -> Shape {
         let curve = Curve::short_named(case.q).expect("a curve of short blocks");
-        Shape::of(curve, case.m)
+        let series = Series::named(case.series).expect("one of the two series");
+        Shape::of(curve.in_series(series), case.m)
     }
 
     /// Zeros at the places are always those of a codeword. That there are others with
     /// them is what recovery says.
     #[test]
     fn the_places_alone_decide_whether_a_call_past_the_checks_is_refused() {
-        let mut lists: BTreeMap<(u8, u16, Vec<u16>), BTreeSet<Vec<u8>>> = BTreeMap::new();
-        let mut numbers = BTreeSet::new();
+        let mut lists = BTreeMap::new();
+        let mut answers = BTreeSet::new();
         for (case, number) in cases_and_numbers() {
             if [0, 16].contains(&number) {
                 let (shape, places) = (shape_of(&case), case.places());
                 let recovery = recovery_from(shape, &places, &vec![0; shape.k]);
                 assert_eq!(number, if recovery.number == 0 { 0 } else { 16 });
-                let symbols = lists.entry((case.q, case.m, places)).or_default();
+                let set_of_places = (shape.numbers(), places);
+                let symbols: &mut BTreeSet<Vec<u8>> = lists.entry(set_of_places).or_default();
                 symbols.insert(case.output);
                 if symbols.len() == 2 {
-                    numbers.insert((case.q, case.m, number));
+                    answers.insert((shape.numbers(), number));
                 }
             }
         }
-        for shape in Shape::every_short() {
-            let (q, m) = (shape.q(), shape.m);
-            assert!(numbers.contains(&(q, m, 0)), "{q} {m}");
-            let is_refused = numbers.contains(&(q, m, 16));
-            assert_eq!(is_refused, has_places_that_leave_several(shape), "{q} {m}");
+        for shape in Shape::every_short_in_both_series() {
+            assert!(answers.contains(&(shape.numbers(), 0)), "{shape:?}");
+            let is_refused = answers.contains(&(shape.numbers(), 16));
+            assert_eq!(
+                is_refused,
+                has_places_that_leave_several(shape),
+                "{shape:?}"
+            );
         }
     }
 
@@ -245,14 +266,15 @@ mod tests {
         let mut found = BTreeSet::new();
         for (case, number) in cases_and_numbers() {
             if number == 16 {
-                let recovery = recovery_from(shape_of(&case), &case.places(), &case.output);
-                found.insert((case.q, case.m, recovery.number));
+                let shape = shape_of(&case);
+                let recovery = recovery_from(shape, &case.places(), &case.output);
+                found.insert((shape.numbers(), recovery.number));
             }
         }
         let with_refusal = |&shape: &Shape| has_places_that_leave_several(shape);
-        let expected: BTreeSet<(u8, u16, u8)> = Shape::every_short()
+        let expected: BTreeSet<((u8, u8, u16), u8)> = Shape::every_short_in_both_series()
             .filter(with_refusal)
-            .flat_map(|shape| [9, 10].map(|number| (shape.q(), shape.m, number)))
+            .flat_map(|shape| [9, 10].map(|number| (shape.numbers(), number)))
             .collect();
         assert_eq!(found, expected);
     }
@@ -262,11 +284,12 @@ mod tests {
         for (case, number) in cases_and_numbers() {
             if number == 0 {
                 let (shape, places) = (shape_of(&case), case.places());
+                let (q, series, m) = shape.numbers();
                 let mut word = vec![0; shape.n];
-                systematic::encode_at(case.q, case.m, &places, &case.output, &mut word);
+                systematic::encode_at(q, series, m, &places, &case.output, &mut word);
                 assert_eq!(symbols_at(&places, &word), case.output);
                 let mut message = vec![0; shape.k];
-                let outcome = code::unencode(case.q, case.m, &word, &mut message);
+                let outcome = code::unencode(q, series, m, &word, &mut message);
                 assert_eq!(outcome, Outcome::ACCEPTED);
             }
         }
@@ -279,7 +302,7 @@ mod tests {
             generator: Generator::with_seed(101),
             cases: Vec::new(),
         };
-        for shape in Shape::every_short() {
+        for shape in Shape::every_short_in_both_series() {
             let places = builder.places_short_of_one(shape);
             assert_eq!(places.is_some(), has_places_that_leave_several(shape));
             if let Some(places) = places {
@@ -293,18 +316,18 @@ mod tests {
     #[test]
     fn a_look_at_the_low_bytes_of_the_places_would_find_no_fault() {
         let mut found = BTreeSet::new();
-        for case in systematic_cases() {
+        for case in Series::BOTH.into_iter().flat_map(systematic_cases) {
             let cut = Case {
                 high_byte: 0,
                 ..case.clone()
             };
             let mut runner = Runner::default();
             if runner.run(&case).starts_with("E 15 ") && runner.run(&cut).starts_with("E 0 ") {
-                found.insert((case.q, case.m));
+                found.insert((case.q, case.series, case.m));
             }
         }
-        for shape in Shape::every_short() {
-            assert!(found.contains(&(shape.q(), shape.m)), "{shape:?}");
+        for shape in Shape::every_short_in_both_series() {
+            assert!(found.contains(&shape.numbers()), "{shape:?}");
         }
     }
 }

@@ -1,5 +1,5 @@
 //! Sessions at q = 2 whose answers are worked out by hand from value H of paper
-//! 01 and the requests T-01 and T-04.
+//! 01 and the requests T-01 and T-04. Both series have the same points there.
 
 use crate::outcome::Outcome;
 
@@ -66,8 +66,10 @@ mod tests {
 
     #[test]
     fn each_session_is_answered_as_worked_out() {
-        for worked in worked_sessions() {
-            let (mut session, _) = Session::open(2, worked.m);
+        let sessions = || worked_sessions().into_iter();
+        let in_both_series = [1, 2].map(|series| sessions().map(move |worked| (series, worked)));
+        for (series, worked) in in_both_series.into_iter().flatten() {
+            let (mut session, _) = Session::open(2, series, worked.m);
             for &(place, symbol, round) in &worked.arrivals {
                 session = session.arrive(place, symbol, round).0;
             }

@@ -46,6 +46,9 @@ room-requires-3 c κs = search needs
 array-read-encode-at-answer : tie.Need-array-read-encode-at-answer
 array-read-encode-at-answer c = search needs
 
+series-requires : tie.Need-series-requires
+series-requires c κs = search needs
+
 order-requires : tie.Need-order-requires
 order-requires c κs = search needs
 
@@ -93,6 +96,7 @@ encode-at-case-spec =
     cast-room-3
     room-requires-3
     array-read-encode-at-answer
+    series-requires
     order-requires
     array-share-prefix-places
     slice-aggregate-encode-at-answer

@@ -19,6 +19,9 @@ every-fourth-requires-2 c κs = search needs
 array-read-replay : tie.Need-array-read-replay
 array-read-replay c = search needs
 
+series-requires : tie.Need-series-requires
+series-requires c κs = search needs
+
 order-requires : tie.Need-order-requires
 order-requires c κs = search needs
 
@@ -63,6 +66,7 @@ replay-answer-spec =
     every-fourth-requires
     every-fourth-requires-2
     array-read-replay
+    series-requires
     order-requires
     array-share-prefix-places
     slice-aggregate-replay

@@ -10,7 +10,7 @@ use Rattle.field.specs.declared.outcome.Outcome.the-variants.{Done, NoMessage}
 use Rattle.poly.specs.inner.Ranges.{Below}
 use Rattle.poly.specs.inner.Polynomials.{value}
 use Rattle.poly.proofs.Interpolants.{at-column}
-use Rattle.points.specs.Points.{columnsOf}
+use Rattle.points.specs.Series.{columnsOf}
 use Rattle.points.specs.inner.Columns.{Columns, columnY}
 use Rattle.code.specs.Terms.{size}
 use Rattle.code.specs.Word.{wordOf}
@@ -64,9 +64,9 @@ abbrev pub readOver : ℕ → List ℕ → ℕ → List ℕ → List ℕ → Ans
 readOver q columns m word slice = theMessage (fitting (q * q) (size q m) (wordOf q columns m) word) slice
 
 -- of a long block: its message where the call decodes, and else its word
-abbrev pub longAnswer : Bool → ℕ → List ℕ → List ℕ → Answer
-longAnswer decodes m input slice =
-    cond decodes (readOver 8 (columnsOf 8) m input slice) (answered Done (wordOf 8 (columnsOf 8) m input))
+abbrev pub longAnswer : Bool → ℕ → ℕ → List ℕ → List ℕ → Answer
+longAnswer decodes series m input slice =
+    cond decodes (readOver 8 (columnsOf 8 series) m input slice) (answered Done (wordOf 8 (columnsOf 8 series) m input))
 
 -- of a grid, its message where it has no coefficient of a weight above m
 abbrev pub gridAnswer : ℕ → ℕ → List ℕ → List ℕ → Answer

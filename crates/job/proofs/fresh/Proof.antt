@@ -16,7 +16,7 @@ copy-requires c κs = search needs
 returns : tie.Need-returns
 returns c =
     let s = c .before .before .before .before in
-    made-fresh (s .args .q) (s .args .m) (now (s .args .word)) _ (replicate 64 0) (replicate 64 0) (s .pre) (c .before .copy .ensures)
+    made-fresh (s .args .q) (s .args .series) (s .args .m) (now (s .args .word)) _ (replicate 64 0) (replicate 64 0) (s .pre) (c .before .copy .ensures)
 
 pub fresh-spec : {M : Type 1} → statement M
 fresh-spec = tie.close (tie.spec slice-aggregate-copy copy-requires returns)

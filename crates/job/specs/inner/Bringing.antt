@@ -63,14 +63,15 @@ Usable q m work candidate true false = Vector (fieldOf q .size) (size q m) candi
 Usable q m work candidate false false = WellFormed (fieldOf q) 64 (size q m) work
 
 -- what is asked of a job of any bytes before it is carried on
-pub record Tested (q m : ℕ) (places : List ℕ) (next : ℕ) (work candidate : List ℕ) (complete clash : Bool) : Type 0 where
-  pub passes : openChecks q m (take (q * q * q) places) ≡ Done
+pub record Tested (q series m : ℕ) (places : List ℕ) (next : ℕ) (work candidate : List ℕ) (complete clash : Bool) : Type 0 where
+  pub passes : openChecks q series m (take (q * q * q) places) ≡ Done
   pub within : next ≤ q * q * q
   pub usable : Usable q m work (take (size q m) candidate) complete clash
 
--- a job of q, m and the word of which nothing has been brought in
-pub record Fresh (q m : ℕ) (word : List ℕ) (j : Job) : Type 0 where
+-- a job of q, the series, m and the word of which nothing has been brought in
+pub record Fresh (q series m : ℕ) (word : List ℕ) (j : Job) : Type 0 where
   pub curve : j .q ≡ q
+  pub listed : j .series ≡ series
   pub order : j .m ≡ m
   pub places : j .places ≡ word ++ replicate (64 - length word) 255
   pub area : length (j .work) ≡ 4096
@@ -85,7 +86,7 @@ replyBy k n r =
     cond (ltb (r .next) n) (cond (r .clash) NoneFits (Leaves (k - r .rank)))
     (Finished (cond (r .clash) NoMessage (cond (ltb (r .rank) k) (Several (k - r .rank)) Done)))
 
-pub record Brings (q m : ℕ) (word : List ℕ) (budget : ℕ) (work₀ candidate₀ whole₀ : List ℕ) (p₀ : ℕ) (complete₀ clash₀ : Bool)
+pub record Brings (q series m : ℕ) (word : List ℕ) (budget : ℕ) (work₀ candidate₀ whole₀ : List ℕ) (p₀ : ℕ) (complete₀ clash₀ : Bool)
     (work candidate whole : List ℕ) (r : Progress) : Type 0 where
   pub counts : Counted word budget p₀ 0 (r .next) (r .brought)
   pub stops : Stopped word budget (r .next) (r .brought)
@@ -93,5 +94,5 @@ pub record Brings (q m : ℕ) (word : List ℕ) (budget : ℕ) (work₀ candidat
   pub rows : r .clash ≡ false → r .rank ≤ size q m
   pub message : r .clash ≡ false → r .rank ≡ size q m → Vector (fieldOf q .size) (size q m) candidate
   pub fewer : r .clash ≡ false → r .rank < size q m → r .rank ≡ rank (size q m) (flat 64 (size q m) work)
-  pub stands : Standing q m word work₀ candidate₀ whole₀ p₀ complete₀ clash₀
-      → Standing q m word work candidate whole (r .next) (eqb (r .rank) (size q m)) (r .clash)
+  pub stands : Standing q series m word work₀ candidate₀ whole₀ p₀ complete₀ clash₀
+      → Standing q series m word work candidate whole (r .next) (eqb (r .rank) (size q m)) (r .clash)

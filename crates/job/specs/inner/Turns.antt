@@ -14,13 +14,13 @@ use Rattle.job.specs.Task.{taskOf}
 use Rattle.job.specs.Sound.{Sound}
 
 -- recovery gives the message v, whatever the slice of length k held
-abbrev pub GivesMessage : ℕ → ℕ → List ℕ → List ℕ → Type 0
-GivesMessage q m word v = (slice : List ℕ) → length slice ≡ size q m → recovered q m word slice ≡ answered Done v
+abbrev pub GivesMessage : ℕ → ℕ → ℕ → List ℕ → List ℕ → Type 0
+GivesMessage q series m word v = (slice : List ℕ) → length slice ≡ size q m → recovered q series m word slice ≡ answered Done v
 
--- j is a job of q, m and the word, and the slice is as it was before, unless recovery gives a message
-pub record Carries (q m : ℕ) (word before : List ℕ) (j : Job) (after : List ℕ) : Type 0 where
+-- j is a job of q, the series, m and the word, and the slice is as it was before, unless recovery gives a message
+pub record Carries (q series m : ℕ) (word before : List ℕ) (j : Job) (after : List ℕ) : Type 0 where
   pub sound : Sound j
-  pub task : taskOf j ≡ record { q = q; m = m; word = word; done = taskOf j .done }
+  pub task : taskOf j ≡ record { q = q; series = series; m = m; word = word; done = taskOf j .done }
   pub within : taskOf j .done ≤ arrivedIn word
   pub long : length after ≡ length before
-  pub kept : (after ≡ before) ⊎ ((length after ≡ size q m) × ((v : List ℕ) × GivesMessage q m word v))
+  pub kept : (after ≡ before) ⊎ ((length after ≡ size q m) × ((v : List ℕ) × GivesMessage q series m word v))

@@ -48,7 +48,7 @@ returns-2 c =
     let w = c .before .before .before .before .before .before .number in
     let ok = c .before .before .before .before .before .if2 .taken in
     rw
-    (line-ok (a .number) (a .block .now) (omega arith) (r .result) (r .last .1 .1 .1 .0) (r .ensures) (w .result) (w .ensures) ok)
+    (line-ok (a .number) (a .block .now) (omega arith) (r .result) (r .last .1 .1 .1 .1 .0) (r .ensures) (w .result) (w .ensures) ok)
     (c .before .before .ok-line .ensures)
 
 same-length-3 : tie.Need-same-length-3
@@ -62,7 +62,7 @@ returns-3 c =
     let s = c .before .before .before .before .second in
     let no = c .before .before .before .before .before .if2 .left in
     rw
-    (line-no (a .number) (a .block .now) (omega arith) (r .result) (r .last .1 .1 .1 .0) (r .ensures)
+    (line-no (a .number) (a .block .now) (omega arith) (r .result) (r .last .1 .1 .1 .1 .0) (r .ensures)
     (w .result) (s .result) (w .ensures) (s .ensures) no)
     (c .before .before .no-line .ensures)
 

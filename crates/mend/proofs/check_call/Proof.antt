@@ -1,6 +1,6 @@
 -- `mend::check_call` meets its contract: each way out has the tests that led there.
 -- Assumes nothing.
-use mathlib.Core.Bool.{Bool, false}
+use mathlib.Core.Bool.{Bool, true, false}
 use mathlib.Core.Path.{_≡_, sym, ap, _∙_}
 use Prim.Native.Nat.{_-_, _*_, _≤_, _<_}
 use native.Mathlib.Omega.{arith}
@@ -10,6 +10,7 @@ use Rattle.field.specs.Curve.{isShort, IsShort}
 use Rattle.field.specs.declared.curve.Curve.{Curve}
 use Rattle.field.specs.declared.outcome.Outcome.the-variants.{Done}
 use Rattle.field.proofs.Curves.{short-curve, short-sizes, short-of-true}
+use Rattle.points.specs.Series.{isSeries}
 use Rattle.code.specs.Terms.{size}
 use Rattle.code.specs.Checks.{orderChecks, sliceChecks}
 use Rattle.code.proofs.Checks.{order-done}
@@ -18,18 +19,19 @@ use Rattle.mend.proofs.Checking.{slices-of-curve, refused-order, refuse
 use Rattle.mend.proofs.check_call.Statement.{statement}
 use Rattle.mend.proofs.check_call.Tie as tie
 
--- what 1 and 2 came to
-order-is : (c : tie.After-order) → let x = c .before .before .before .args in c .order .result ≡ orderChecks (isShort (x .q)) (x .q) (x .m) Done
+-- what 1, 17 and 2 came to
+order-is : (c : tie.After-order) → let x = c .before .before .before .args in c .order .result ≡ orderChecks (isShort (x .q)) (x .q) (x .series) (x .m) Done
 order-is c =
     let x = c .before .before .before .args in
-    c .order .ensures ∙ ap (λ (t : Bool). orderChecks t (x .q) (x .m) Done) (c .before .is-short .ensures)
+    c .order .ensures ∙ ap (λ (t : Bool). orderChecks t (x .q) (x .series) (x .m) Done) (c .before .is-short .ensures)
 
 -- past them
-ordered : (c : tie.After-enum-told) → let x = c .before .before .before .before .before .args in IsShort (x .q) × (x .m < x .q * x .q * x .q)
+ordered : (c : tie.After-enum-told) → let x = c .before .before .before .before .before .args in
+    IsShort (x .q) × (x .m < x .q * x .q * x .q) × (isSeries (x .series) ≡ true)
 ordered c =
     let x = c .before .before .before .before .before .args in
-    let w = order-done (isShort (x .q)) (x .q) (x .m) (sym (order-is (c .before .before)) ∙ c .enum-told .given .1) in
-    (short-of-true (x .q) (w .0), w .1)
+    let w = order-done (isShort (x .q)) (x .q) (x .series) (x .m) (sym (order-is (c .before .before)) ∙ c .enum-told .given .1) in
+    (short-of-true (x .q) (w .0), w .1, w .2)
 
 -- the numbers of the curve
 points : (c : tie.After-at) → let x = c .before .before .before .before .before .before .args in c .at .result .points ≡ x .q * x .q * x .q
@@ -65,7 +67,7 @@ enum-told c = search needs
 returns : tie.Need-returns
 returns c =
     let x = c .before .before .before .before .args in
-    refused-order (x .q) (x .m) (now (x .word)) (x .message) (x .codeword) (x .marks) _ (order-is (c .before)) (c .match .keys2)
+    refused-order (x .q) (x .series) (x .m) (now (x .word)) (x .message) (x .codeword) (x .marks) _ (order-is (c .before)) (c .match .keys2)
 
 at-requires : tie.Need-at-requires
 at-requires c κs = short-curve _ (ordered c .0)
@@ -81,7 +83,7 @@ returns-2 c =
     let a = c .before .before .before in
     let x = a .before .before .before .before .before .before .args in
     let o = ordered (a .before) in
-    refused-radius (x .q) (x .m) (now (x .word)) (x .message) (x .codeword) (x .marks) (o .0) (o .1)
+    refused-radius (x .q) (x .series) (x .m) (now (x .word)) (x .message) (x .codeword) (x .marks) (o .0) (o .2) (o .1)
     (omega (arith, points a, genus-is a, c .if1 .taken))
 
 size-requires : tie.Need-size-requires
@@ -100,8 +102,8 @@ returns-3 c =
     let s = c .before in
     let x = s .before .before .before .before .before .before .before .before .before .before .before .args in
     let o = ordered (s .before .before .before .before .before .before) in
-    refused-slices (x .q) (x .m) (now (x .word)) (x .message) (x .codeword) (x .marks) (o .0) (o .1) (far (s .before .before)) _ (slices-are s)
-    (c .match2 .keys2)
+    refused-slices (x .q) (x .series) (x .m) (now (x .word)) (x .message) (x .codeword) (x .marks) (o .0) (o .2) (o .1) (far (s .before .before)) _
+    (slices-are s) (c .match2 .keys2)
 
 returns-4 : tie.Need-returns-4
 returns-4 c =
@@ -109,8 +111,8 @@ returns-4 c =
     let x = s .before .before .before .before .before .before .before .before .before .before .before .args in
     let o = ordered (s .before .before .before .before .before .before) in
     let n = points (s .before .before .before .before .before) in
-    refused-codeword (x .q) (x .m) (now (x .word)) (x .message) (x .codeword) (x .marks) (o .0) (o .1) (far (s .before .before)) _ (slices-are s)
-    (c .before .before .enum-told2 .given .1) (λ e. c .if2 .taken (e ∙ sym n))
+    refused-codeword (x .q) (x .series) (x .m) (now (x .word)) (x .message) (x .codeword) (x .marks) (o .0) (o .2) (o .1) (far (s .before .before)) _
+    (slices-are s) (c .before .before .enum-told2 .given .1) (λ e. c .if2 .taken (e ∙ sym n))
 
 returns-5 : tie.Need-returns-5
 returns-5 c =
@@ -118,8 +120,8 @@ returns-5 c =
     let x = s .before .before .before .before .before .before .before .before .before .before .before .args in
     let o = ordered (s .before .before .before .before .before .before) in
     let n = points (s .before .before .before .before .before) in
-    refused-marks (x .q) (x .m) (now (x .word)) (x .message) (x .codeword) (x .marks) (o .0) (o .1) (far (s .before .before)) _ (slices-are s)
-    (c .before .before .before .before .enum-told2 .given .1) (c .before .before .if2 .left ∙ n) (λ e. c .if3 .taken (e ∙ sym n))
+    refused-marks (x .q) (x .series) (x .m) (now (x .word)) (x .message) (x .codeword) (x .marks) (o .0) (o .2) (o .1) (far (s .before .before)) _
+    (slices-are s) (c .before .before .before .before .enum-told2 .given .1) (c .before .before .if2 .left ∙ n) (λ e. c .if3 .taken (e ∙ sym n))
 
 returns-6 : tie.Need-returns-6
 returns-6 c =
@@ -127,8 +129,8 @@ returns-6 c =
     let x = s .before .before .before .before .before .before .before .before .before .before .before .args in
     let o = ordered (s .before .before .before .before .before .before) in
     let n = points (s .before .before .before .before .before) in
-    none-refused (x .q) (x .m) (now (x .word)) (x .message) (x .codeword) (x .marks) (o .0) (o .1) (far (s .before .before)) _ (slices-are s)
-    (c .before .before .before .before .enum-told2 .given .1) (c .before .before .if2 .left ∙ n) (c .if3 .left ∙ n)
+    none-refused (x .q) (x .series) (x .m) (now (x .word)) (x .message) (x .codeword) (x .marks) (o .0) (o .2) (o .1) (far (s .before .before)) _
+    (slices-are s) (c .before .before .before .before .enum-told2 .given .1) (c .before .before .if2 .left ∙ n) (c .if3 .left ∙ n)
 
 pub check-call-spec : {M : Type 1} → statement M
 check-call-spec =

@@ -16,7 +16,7 @@ enum-told c = search needs
 returns : tie.Need-returns
 returns c =
     let x = c .before .before .before .before .before .before .args in
-    answered-refused (x .q) (x .m) (now (x .word)) (now (x .message)) (now (x .codeword)) (now (x .marks)) _ (c .before .check-call .ensures)
+    answered-refused (x .q) (x .series) (x .m) (now (x .word)) (now (x .message)) (now (x .codeword)) (now (x .marks)) _ (c .before .check-call .ensures)
     (c .match .keys2)
 
 mend-word-requires : tie.Need-mend-word-requires

@@ -16,11 +16,11 @@ use Rattle.mend.proofs.mend_word.Tie as tie
 
 -- what the checks say
 accepted : (s : tie.Start) → let x = s .args in
-    Passed (x .q) (x .m) (now (x .word)) (length (now (x .message))) (length (now (x .codeword))) (length (now (x .marks)))
-accepted s = let x = s .args in passed (x .q) (x .m) (now (x .word)) (now (x .message)) (now (x .codeword)) (now (x .marks)) (s .pre)
+    Passed (x .q) (x .series) (x .m) (now (x .word)) (length (now (x .message))) (length (now (x .codeword))) (length (now (x .marks)))
+accepted s = let x = s .args in passed (x .q) (x .series) (x .m) (now (x .word)) (now (x .message)) (now (x .codeword)) (now (x .marks)) (s .pre)
 
 short : (s : tie.Start) → length (now (s .args .message)) ≤ 64
-short s = let x = s .args in message-short (x .q) (x .m) (now (x .word)) (now (x .message)) (now (x .codeword)) (now (x .marks)) (s .pre)
+short s = let x = s .args in message-short (x .q) (x .series) (x .m) (now (x .word)) (now (x .message)) (now (x .codeword)) (now (x .marks)) (s .pre)
 
 radius-requires : tie.Need-radius-requires
 radius-requires c κs = let a = accepted (c .before .before .before .before) .mendable in (a .curve, a .order)
@@ -38,23 +38,23 @@ find-requires c κs =
 
 -- the only message that can be near
 only : (c : tie.Then1) → let f = c .before .before in let x = f .before .before .before .before .before .before .before .args in
-    OnlyNear (x .q) (x .m) (now (x .word)) (f .find .last .1 .1 .1 .1 .0) true
+    OnlyNear (x .q) (x .series) (x .m) (now (x .word)) (f .find .last .1 .1 .1 .1 .1 .0) true
 only c =
     let f = c .before .before in
     let x = f .before .before .before .before .before .before .before .args in
-    subst (OnlyNear (x .q) (x .m) (now (x .word)) (f .find .last .1 .1 .1 .1 .0)) (c .if1 .taken) (f .find .ensures)
+    subst (OnlyNear (x .q) (x .series) (x .m) (now (x .word)) (f .find .last .1 .1 .1 .1 .1 .0)) (c .if1 .taken) (f .find .ensures)
 
 array-share-prefix-only : tie.Need-array-share-prefix-only
 array-share-prefix-only c =
     let f = c .before .before in
     let s = f .before .before .before .before .before .before .before in
-    front-fits _ (f .find .last .1 .1 .1 .1 .0) _ (front-long 64 _ (short s) (f .find .last .1 .1 .1 .1 .0) (f .find .kept .1 .1 .1 .1 .0))
+    front-fits _ (f .find .last .1 .1 .1 .1 .1 .0) _ (front-long 64 _ (short s) (f .find .last .1 .1 .1 .1 .1 .0) (f .find .kept .1 .1 .1 .1 .1 .0))
 
 slice-aggregate-write-near : tie.Need-slice-aggregate-write-near
 slice-aggregate-write-near c =
     let f = c .before .before .before in
     let s = f .before .before .before .before .before .before .before in
-    sym (again-long _ (f .find .last .1 .1 .1 .1 .0) _ (front-long 64 _ (short s) (f .find .last .1 .1 .1 .1 .0) (f .find .kept .1 .1 .1 .1 .0)))
+    sym (again-long _ (f .find .last .1 .1 .1 .1 .1 .0) _ (front-long 64 _ (short s) (f .find .last .1 .1 .1 .1 .1 .0) (f .find .kept .1 .1 .1 .1 .1 .0)))
 
 write-near-requires : tie.Need-write-near-requires
 write-near-requires c κs =
@@ -64,9 +64,9 @@ write-near-requires c κs =
       s .pre,
       (
         f .before .before .radius .ensures,
-        subst (λ (v : List ℕ). OnlyNear (x .q) (x .m) (now (x .word)) v true)
-            (sym (front-again _ (f .find .last .1 .1 .1 .1 .0) _ (front-long 64 _ (short s) (f .find .last .1 .1 .1 .1 .0)
-            (f .find .kept .1 .1 .1 .1 .0)))) (only (c .before .before .before .before)),
+        subst (λ (v : List ℕ). OnlyNear (x .q) (x .series) (x .m) (now (x .word)) v true)
+            (sym (front-again _ (f .find .last .1 .1 .1 .1 .1 .0) _ (front-long 64 _ (short s) (f .find .last .1 .1 .1 .1 .1 .0)
+            (f .find .kept .1 .1 .1 .1 .1 .0)))) (only (c .before .before .before .before)),
       ),
     )
 
@@ -87,8 +87,8 @@ returns-2 c =
     let f = c .before .before in
     let s = f .before .before .before .before .before .before .before in
     let x = s .args in
-    mended-none (x .q) (x .m) (now (x .word)) (now (x .message)) (now (x .codeword)) (now (x .marks)) (s .pre)
-    (subst (OnlyNear (x .q) (x .m) (now (x .word)) (f .find .last .1 .1 .1 .1 .0)) (c .if1 .left) (f .find .ensures))
+    mended-none (x .q) (x .series) (x .m) (now (x .word)) (now (x .message)) (now (x .codeword)) (now (x .marks)) (s .pre)
+    (subst (OnlyNear (x .q) (x .series) (x .m) (now (x .word)) (f .find .last .1 .1 .1 .1 .1 .0)) (c .if1 .left) (f .find .ensures))
 
 pub mend-word-spec : {M : Type 1} → statement M
 mend-word-spec =

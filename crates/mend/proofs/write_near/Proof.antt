@@ -9,7 +9,7 @@ use lib.ListN.{length}
 use Rattle.poly.proofs.Entries.{copied}
 use Rattle.poly.proofs.Multiples.{stored-all}
 use Rattle.poly.proofs.Fronts.{lent-long, front-long, array-long, front-fits, front-again, again-long}
-use Rattle.points.specs.Points.{columnsOf}
+use Rattle.points.specs.Series.{columnsOf}
 use Rattle.code.specs.Word.{wordOf}
 use Rattle.mend.specs.Mended.{differing, marksOf}
 use Rattle.mend.proofs.Menders.{Passed}
@@ -19,11 +19,11 @@ use Rattle.mend.proofs.write_near.Tie as tie
 
 -- what the checks say
 accepted : (s : tie.Start) → let x = s .args in
-    Passed (x .q) (x .m) (now (x .word)) (length (now (x .message))) (length (now (x .codeword))) (length (now (x .marks)))
-accepted s = let x = s .args in passed (x .q) (x .m) (now (x .word)) (now (x .message)) (now (x .codeword)) (now (x .marks)) (s .pre .0)
+    Passed (x .q) (x .series) (x .m) (now (x .word)) (length (now (x .message))) (length (now (x .codeword))) (length (now (x .marks)))
+accepted s = let x = s .args in passed (x .q) (x .series) (x .m) (now (x .word)) (now (x .message)) (now (x .codeword)) (now (x .marks)) (s .pre .0)
 
 short : (s : tie.Start) → length (now (s .args .word)) ≤ 64
-short s = let x = s .args in word-short (x .q) (x .m) (now (x .word)) (now (x .message)) (now (x .codeword)) (now (x .marks)) (s .pre .0)
+short s = let x = s .args in word-short (x .q) (x .series) (x .m) (now (x .word)) (now (x .message)) (now (x .codeword)) (now (x .marks)) (s .pre .0)
 
 array-borrow-prefix-near : tie.Need-array-borrow-prefix-near
 array-borrow-prefix-near c = short (c .before .before .before .before .before)
@@ -35,50 +35,50 @@ write-word-requires : tie.Need-write-word-requires
 write-word-requires c κs =
     let s = c .before .before .before .before .before .before in
     let x = s .args in (
-      only-encodable (x .q) (x .m) (now (x .word)) (now (x .message)) (now (x .codeword)) (now (x .marks)) (s .pre .0) (now (x .candidate))
+      only-encodable (x .q) (x .series) (x .m) (now (x .word)) (now (x .message)) (now (x .codeword)) (now (x .marks)) (s .pre .0) (now (x .candidate))
           (s .pre .1 .1) _ (lent-long 64 _ (short s)),
       accepted s .mendable .curve,
     )
 
 -- the word of the candidate
 word-is : (c : tie.After-write-word) → let x = c .before .before .before .before .before .before .before .args in
-    c .write-word .last .1 .1 .1 .0 ≡ wordOf (x .q) (columnsOf (x .q)) (x .m) (now (x .candidate))
+    c .write-word .last .1 .1 .1 .1 .0 ≡ wordOf (x .q) (columnsOf (x .q) (x .series)) (x .m) (now (x .candidate))
 word-is c = c .write-word .ensures
 
 array-share-prefix-near : tie.Need-array-share-prefix-near
 array-share-prefix-near c =
     let z = c .before in
     let s = z .before .before .before .before .before .before .before in
-    front-fits _ (z .write-word .last .1 .1 .1 .0) _ (front-long 64 _ (short s) (z .write-word .last .1 .1 .1 .0) (z .write-word .kept .1 .1 .1 .0))
+    front-fits _ (z .write-word .last .1 .1 .1 .1 .0) _ (front-long 64 _ (short s) (z .write-word .last .1 .1 .1 .1 .0) (z .write-word .kept .1 .1 .1 .1 .0))
 
 slice-aggregate-count : tie.Need-slice-aggregate-count
 slice-aggregate-count c =
     let z = c .before .before in
     let s = z .before .before .before .before .before .before .before in
-    sym (again-long _ (z .write-word .last .1 .1 .1 .0) _ (front-long 64 _ (short s) (z .write-word .last .1 .1 .1 .0) (z .write-word .kept .1 .1 .1 .0)))
+    sym (again-long _ (z .write-word .last .1 .1 .1 .1 .0) _ (front-long 64 _ (short s) (z .write-word .last .1 .1 .1 .1 .0) (z .write-word .kept .1 .1 .1 .1 .0)))
 
 count-requires : tie.Need-count-requires
 count-requires c κs =
     let z = c .before .before in
     let s = z .before .before .before .before .before .before .before in
-    again-long _ (z .write-word .last .1 .1 .1 .0) _ (front-long 64 _ (short s) (z .write-word .last .1 .1 .1 .0) (z .write-word .kept .1 .1 .1 .0))
+    again-long _ (z .write-word .last .1 .1 .1 .1 .0) _ (front-long 64 _ (short s) (z .write-word .last .1 .1 .1 .1 .0) (z .write-word .kept .1 .1 .1 .1 .0))
 
 -- the number of places where it differs from the given word
 counted : (c : tie.After-count) → let z = c .before .before .before in
-    c .count .result ≡ differing (now (z .before .before .before .before .before .before .before .args .word)) (z .write-word .last .1 .1 .1 .0)
+    c .count .result ≡ differing (now (z .before .before .before .before .before .before .before .args .word)) (z .write-word .last .1 .1 .1 .1 .0)
 counted c =
     let z = c .before .before .before in
     let s = z .before .before .before .before .before .before .before in
     c .count .ensures
-    ∙ ap (differing (now (s .args .word))) (front-again _ (z .write-word .last .1 .1 .1 .0) _ (front-long 64 _ (short s)
-    (z .write-word .last .1 .1 .1 .0) (z .write-word .kept .1 .1 .1 .0)))
+    ∙ ap (differing (now (s .args .word))) (front-again _ (z .write-word .last .1 .1 .1 .1 .0) _ (front-long 64 _ (short s)
+    (z .write-word .last .1 .1 .1 .1 .0) (z .write-word .kept .1 .1 .1 .1 .0)))
 
 returns : tie.Need-returns
 returns c =
     let z = c .before .before .before .before in
     let s = z .before .before .before .before .before .before .before in
     let x = s .args in
-    answered-far (x .q) (x .m) (now (x .word)) (now (x .message)) (now (x .codeword)) (now (x .marks)) (s .pre .0) (now (x .candidate))
+    answered-far (x .q) (x .series) (x .m) (now (x .word)) (now (x .message)) (now (x .codeword)) (now (x .marks)) (s .pre .0) (now (x .candidate))
     (s .pre .1 .1) (x .t) (s .pre .1 .0) _ (word-is z) _ (counted (c .before)) (c .if1 .taken)
 
 copy-requires : tie.Need-copy-requires
@@ -90,13 +90,13 @@ slice-aggregate-copy : tie.Need-slice-aggregate-copy
 slice-aggregate-copy c =
     let z = c .before .before .before .before .before .before .before .before .before in
     let s = z .before .before .before .before .before .before .before in
-    array-long 64 _ (short s) (z .write-word .last .1 .1 .1 .0) (z .write-word .kept .1 .1 .1 .0)
+    array-long 64 _ (short s) (z .write-word .last .1 .1 .1 .1 .0) (z .write-word .kept .1 .1 .1 .1 .0)
 
 copy-requires-2 : tie.Need-copy-requires-2
 copy-requires-2 c κs =
     let z = c .before .before .before .before .before .before .before .before .before .before in
     let s = z .before .before .before .before .before .before .before in (
-      front-fits _ (z .write-word .last .1 .1 .1 .0) _ (front-long 64 _ (short s) (z .write-word .last .1 .1 .1 .0) (z .write-word .kept .1 .1 .1 .0)),
+      front-fits _ (z .write-word .last .1 .1 .1 .1 .0) _ (front-long 64 _ (short s) (z .write-word .last .1 .1 .1 .1 .0) (z .write-word .kept .1 .1 .1 .1 .0)),
       omega (arith, accepted s .mendable .long, accepted s .codeword-long),
     )
 
@@ -104,31 +104,31 @@ array-share-prefix-near-2 : tie.Need-array-share-prefix-near-2
 array-share-prefix-near-2 c =
     let z = c .before .before .before .before .before .before .before .before .before .before .before .before .before in
     let s = z .before .before .before .before .before .before .before in
-    front-fits _ (z .write-word .last .1 .1 .1 .0) _ (front-long 64 _ (short s) (z .write-word .last .1 .1 .1 .0) (z .write-word .kept .1 .1 .1 .0))
+    front-fits _ (z .write-word .last .1 .1 .1 .1 .0) _ (front-long 64 _ (short s) (z .write-word .last .1 .1 .1 .1 .0) (z .write-word .kept .1 .1 .1 .1 .0))
 
 slice-aggregate-mark : tie.Need-slice-aggregate-mark
 slice-aggregate-mark c =
     let z = c .before .before .before .before .before .before .before .before .before .before .before .before .before .before in
     let s = z .before .before .before .before .before .before .before in
-    sym (again-long _ (z .write-word .last .1 .1 .1 .0) _ (front-long 64 _ (short s) (z .write-word .last .1 .1 .1 .0) (z .write-word .kept .1 .1 .1 .0)))
+    sym (again-long _ (z .write-word .last .1 .1 .1 .1 .0) _ (front-long 64 _ (short s) (z .write-word .last .1 .1 .1 .1 .0) (z .write-word .kept .1 .1 .1 .1 .0)))
 
 mark-requires : tie.Need-mark-requires
 mark-requires c κs =
     let z = c .before .before .before .before .before .before .before .before .before .before .before .before .before .before .before in
     let s = z .before .before .before .before .before .before .before in (
-      again-long _ (z .write-word .last .1 .1 .1 .0) _ (front-long 64 _ (short s) (z .write-word .last .1 .1 .1 .0) (z .write-word .kept .1 .1 .1 .0)),
+      again-long _ (z .write-word .last .1 .1 .1 .1 .0) _ (front-long 64 _ (short s) (z .write-word .last .1 .1 .1 .1 .0) (z .write-word .kept .1 .1 .1 .1 .0)),
       accepted s .marks-long ∙ sym (accepted s .mendable .long),
     )
 
-cast-t31 : tie.Need-cast-t31
-cast-t31 c =
+cast-t32 : tie.Need-cast-t32
+cast-t32 c =
     let e = c .before .before .before .before .before .before .before .before .before .before .before .before .before .before in
     let z = e .before .before .before .before in
     let s = z .before .before .before .before .before .before .before in
     let x = s .args in
     omega (
       arith,
-      count-small (x .q) (x .m) (now (x .word)) (now (x .message)) (now (x .codeword)) (now (x .marks)) (s .pre .0) (now (x .candidate))
+      count-small (x .q) (x .series) (x .m) (now (x .word)) (now (x .message)) (now (x .codeword)) (now (x .marks)) (s .pre .0) (now (x .candidate))
           (s .pre .1 .1) (x .t) (s .pre .1 .0) _ (word-is z) _ (counted (e .before)) (e .if1 .left),
     )
 
@@ -147,10 +147,10 @@ returns-2 c =
     let z = e .before .before .before .before in
     let s = z .before .before .before .before .before .before .before in
     let x = s .args in
-    let near = z .write-word .last .1 .1 .1 .0 in
-    let kept = z .write-word .kept .1 .1 .1 .0 in
+    let near = z .write-word .last .1 .1 .1 .1 .0 in
+    let kept = z .write-word .kept .1 .1 .1 .1 .0 in
     let a = accepted s in
-    answered-near (x .q) (x .m) (now (x .word)) (now (x .message)) (now (x .codeword)) (now (x .marks)) (s .pre .0) (now (x .candidate))
+    answered-near (x .q) (x .series) (x .m) (now (x .word)) (now (x .message)) (now (x .codeword)) (now (x .marks)) (s .pre .0) (now (x .candidate))
     (s .pre .1 .1) (x .t) (s .pre .1 .0) _ (word-is z) _ (counted (e .before)) (e .if1 .left) _ _ _
     (c .before .before .before .before .before .before .before .before .before .before .before .before .copy .ensures
     ∙ stored-all _ (now (x .candidate)) (now (x .message)) refl (a .message-long ∙ sym (s .pre .1 .1 .0 .len)))
@@ -175,7 +175,7 @@ write-near-spec =
     array-share-prefix-near-2
     slice-aggregate-mark
     mark-requires
-    cast-t31
+    cast-t32
     same-length
     same-length-2
     same-length-3

@@ -5,13 +5,13 @@ use borrow.Author.Needs.{needs}
 use denote.Ref.{now}
 use lib.ListN.{length}
 use Rattle.field.proofs.Curves.{long-curve}
-use Rattle.points.proofs.ColumnPoints.{full-places}
+use Rattle.points.proofs.Series.{full-places}
 use Rattle.recovery.proofs.KnownGrids.{filled-over, known-grid}
 use Rattle.recovery.proofs.known_long_grid.Statement.{statement}
 use Rattle.recovery.proofs.known_long_grid.Tie as tie
 
 long : (s : tie.Start) → 512 ≡ length (now (s .args .word))
-long s = sym (s .pre .long ∙ full-places 8 long-curve)
+long s = sym (s .pre .long ∙ full-places 8 (s .args .series) long-curve)
 
 slice-aggregate-fill : tie.Need-slice-aggregate-fill
 slice-aggregate-fill c = search needs

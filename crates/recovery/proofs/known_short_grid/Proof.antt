@@ -6,7 +6,7 @@ use Prim.Native.Nat.{ℕ, _≤_}
 use denote.Ref.{now}
 use lib.ListN.{length}
 use Rattle.poly.proofs.Fronts.{lent-long, front-fits, front-again, again-long}
-use Rattle.points.specs.Points.{columnsOf}
+use Rattle.points.specs.Series.{columnsOf}
 use Rattle.code.specs.inner.Readable.{WordOver, GridInFront}
 use Rattle.recovery.proofs.KnownGrids.{filled-over, known-grid}
 use Rattle.recovery.proofs.GapAnswers.{short-places}
@@ -40,8 +40,9 @@ interpolate-short-requires : tie.Need-interpolate-short-requires
 interpolate-short-requires c κs =
     let d = c .before .before in
     let s = d .before .before .before in
-    let q = s .args .q in (
-      subst (WordOver q (columnsOf q)) (sym (front-again _ (d .fill .last .1 .0) _ (filled-is d)))
+    let q = s .args .q in
+    let series = s .args .series in (
+      subst (WordOver q (columnsOf q series)) (sym (front-again _ (d .fill .last .1 .0) _ (filled-is d)))
           (filled-over q _ _ (s .pre .0) _ _ (lent-long 64 _ (few s)) (d .fill .ensures)),
       s .pre .1,
     )
@@ -51,9 +52,10 @@ returns c =
     let d = c .before .before .before in
     let s = d .before .before .before in
     let q = s .args .q in
+    let series = s .args .series in
     let r = c .interpolate-short in (
       known-grid q _ _ (s .pre .0) _ _ (lent-long 64 _ (few s)) (d .fill .ensures) _
-          (subst (λ (l : List ℕ). GridInFront q (columnsOf q) l (r .result)) (front-again _ (d .fill .last .1 .0) _ (filled-is d)) (r .ensures .0)),
+          (subst (λ (l : List ℕ). GridInFront q (columnsOf q series) l (r .result)) (front-again _ (d .fill .last .1 .0) _ (filled-is d)) (r .ensures .0)),
       r .ensures .1,
     )
 

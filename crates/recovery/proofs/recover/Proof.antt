@@ -10,7 +10,7 @@ use Rattle.field.specs.Curve.{isShort, IsShort}
 use Rattle.field.specs.declared.curve.Curve.{Curve}
 use Rattle.field.proofs.Curves.{sizes, short-curve, short-of-true}
 use Rattle.field.specs.declared.outcome.Outcome.the-variants.{Done}
-use Rattle.points.specs.Points.{columnsOf}
+use Rattle.points.specs.Series.{columnsOf}
 use Rattle.code.specs.Checks.{callChecks}
 use Rattle.code.specs.Terms.{size}
 use Rattle.code.specs.Word.{wordOf}
@@ -25,10 +25,10 @@ use Rattle.recovery.proofs.recover.Statement.{statement}
 use Rattle.recovery.proofs.recover.Tie as tie
 
 -- what is checked
-is-checked : (c : tie.After-call) → let x = c .before .before .before .before .args in c .call .result ≡ recoverChecks (x .q) (x .m) (now (x .word)) (now (x .message))
+is-checked : (c : tie.After-call) → let x = c .before .before .before .before .args in c .call .result ≡ recoverChecks (x .q) (x .series) (x .m) (now (x .word)) (now (x .message))
 is-checked c =
     let x = c .before .before .before .before .args in
-    c .call .ensures ∙ ap (λ (t : Bool). callChecks t true true (x .q) (x .m) (now (x .word)) (length (now (x .message))) Done) (c .before .is-short .ensures)
+    c .call .ensures ∙ ap (λ (t : Bool). callChecks t true true (x .q) (x .series) (x .m) (now (x .word)) (length (now (x .message))) Done) (c .before .is-short .ensures)
 
 -- past the checks
 passed : (c : tie.After-enum-told) → let x = c .before .before .before .before .before .before .args in
@@ -36,17 +36,17 @@ passed : (c : tie.After-enum-told) → let x = c .before .before .before .before
     (length (now (x .message)))
 passed c =
     let x = c .before .before .before .before .before .before .args in
-    let w = call-done (isShort (x .q)) true true (x .q) (x .m) (now (x .word)) (length (now (x .message)))
+    let w = call-done (isShort (x .q)) true true (x .q) (x .series) (x .m) (now (x .word)) (length (now (x .message)))
     (sym (is-checked (c .before .before)) ∙ c .enum-told .given .1) in
     (short-of-true (x .q) (w .0), w .1, w .2)
 
 -- the broken word
 broken : (c : tie.After-enum-told) → let x = c .before .before .before .before .before .before .args in
-    BrokenOver (x .q) (columnsOf (x .q)) (x .m) (now (x .word))
+    BrokenOver (x .q) (columnsOf (x .q) (x .series)) (x .m) (now (x .word))
 broken c =
     let x = c .before .before .before .before .before .before .args in
     let p = passed c in
-    broken-over (x .q) (x .m) (now (x .word)) _ _ (short-curve _ (p .0)) (p .1) (p .2)
+    broken-over (x .q) (x .series) (x .m) (now (x .word)) _ _ (short-curve _ (p .0)) (p .1) (p .2)
 
 is-short-requires : tie.Need-is-short-requires
 is-short-requires c κs = search needs
@@ -80,8 +80,8 @@ returns-2 c =
     let x = d .before .before .before .before .before .before .args in
     let r = c .before .before .recover-over in
     not-refused _ (now (x .message)) _ (sym (is-checked (d .before .before)) ∙ d .enum-told .given .1)
-    ∙ subst (λ (Q : ℕ). answerOf (reading Q (size (x .q) (x .m)) (wordOf (x .q) (columnsOf (x .q)) (x .m)) (now (x .word))) (now (x .message))
-    ≡ answered (r .result) (r .last .1 .1 .1 .1 .0))
+    ∙ subst (λ (Q : ℕ). answerOf (reading Q (size (x .q) (x .m)) (wordOf (x .q) (columnsOf (x .q) (x .series)) (x .m)) (now (x .word))) (now (x .message))
+    ≡ answered (r .result) (r .last .1 .1 .1 .1 .1 .0))
     (sizes (x .q) (short-curve _ (passed d .0)) .size) (r .ensures)
 
 pub recover-spec : {M : Type 1} → statement M

@@ -19,7 +19,8 @@ passed : (c : tie.After-enum-told) → let x = c .before .before .before .before
     (true ≡ true) × (x .m < 512) × Accepted true 64 512 (now (x .word)) (size 8 (x .m)) (length (now (x .message)))
 passed c =
     let x = c .before .before .before .before .before .before .args in
-    call-done true true true 8 (x .m) (now (x .word)) (length (now (x .message))) (sym (c .before .before .call .ensures) ∙ c .enum-told .given .1)
+    let w = call-done true true true 8 (x .series) (x .m) (now (x .word)) (length (now (x .message))) (sym (c .before .before .call .ensures) ∙ c .enum-told .given .1) in
+    (w .0, w .1, w .2)
 
 call-requires : tie.Need-call-requires
 call-requires c κs = λ t. long-curve
@@ -30,19 +31,19 @@ enum-told c = search needs
 returns : tie.Need-returns
 returns c =
     let x = c .before .before .before .before .before .args in
-    (long-refused (x .m) (now (x .word)) (now (x .message)) (length (now (x .work))) _ (c .before .call .ensures) (c .match .keys2), λ e. refl)
+    (long-refused (x .series) (x .m) (now (x .word)) (now (x .message)) (length (now (x .work))) _ (c .before .call .ensures) (c .match .keys2), λ e. refl)
 
 returns-2 : tie.Need-returns-2
 returns-2 c =
     let x = c .before .before .before .before .before .before .before .args in
     let k = c .before in
-    (long-work (x .m) (now (x .word)) (now (x .message)) (length (now (x .work))) _ (k .before .before .call .ensures) (k .enum-told .given .1) (c .if1 .taken), λ e. refl)
+    (long-work (x .series) (x .m) (now (x .word)) (now (x .message)) (length (now (x .work))) _ (k .before .before .call .ensures) (k .enum-told .given .1) (c .if1 .taken), λ e. refl)
 
 recover-long-over-requires : tie.Need-recover-long-over-requires
 recover-long-over-requires c κs =
     let x = c .before .before .before .before .before .before .before .before .before .args in
     let p = passed (c .before .before .before) in
-    (broken-over 8 (x .m) (now (x .word)) _ _ long-curve (p .1) (p .2), p .2 .fits, c .before .before .if1 .left)
+    (broken-over 8 (x .series) (x .m) (now (x .word)) _ _ long-curve (p .1) (p .2), p .2 .fits, c .before .before .if1 .left)
 
 same-length : tie.Need-same-length
 same-length c = search needs
@@ -55,7 +56,7 @@ returns-3 c =
     let x = c .before .before .before .before .before .before .before .before .before .before .before .before .before .before .args in
     let k = c .before .before .before .before .before .before .before .before in
     let r = c .before .before .before .before .recover-long-over in (
-      long-passed (x .m) (now (x .word)) (now (x .message)) (length (now (x .work))) _ (k .before .before .call .ensures) (k .enum-told .given .1) (c .before .before .before .before .before .before .before .if1 .left)
+      long-passed (x .series) (x .m) (now (x .word)) (now (x .message)) (length (now (x .work))) _ (k .before .before .call .ensures) (k .enum-told .given .1) (c .before .before .before .before .before .before .before .if1 .left)
           ∙ r .ensures,
       kept-open _ (now (x .message)) _ _ _ _ (r .ensures),
     )

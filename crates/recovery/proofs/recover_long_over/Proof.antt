@@ -10,7 +10,7 @@ use Rattle.field.proofs.Fields.{fieldOf}
 use Rattle.field.proofs.Curves.{long-curve}
 use Rattle.poly.specs.inner.Ranges.{Below}
 use Rattle.poly.proofs.Entries.{getD-zeros}
-use Rattle.points.proofs.ColumnPoints.{length-upTo}
+use Rattle.points.proofs.Series.{length-columns}
 use Rattle.code.specs.Recovered.{reading, answerOf}
 use Rattle.code.specs.Terms.{size}
 use Rattle.code.specs.Word.{wordOf}
@@ -28,7 +28,9 @@ over c =
     subst (λ (l : List ℕ). BrokenOver 8 l (s .args .m) (now (s .args .word))) (sym (c .before .before .before .before .before .before .before .long-columns .ensures)) (s .pre .0)
 
 full : (c : tie.After-write-long-indicators) → length (c .before .before .before .before .before .before .before .long-columns .result) ≡ 8 * 8
-full c = ap length (c .before .before .before .before .before .before .before .long-columns .ensures) ∙ length-upTo 64
+full c =
+    ap length (c .before .before .before .before .before .before .before .long-columns .ensures)
+    ∙ length-columns 8 (c .before .before .before .before .before .before .before .before .before .before .before .args .series) long-curve
 
 points : (c : tie.After-write-long-indicators) → 8 * length (c .before .before .before .before .before .before .before .long-columns .result) ≤ 512
 points c = omega (arith, full c)
@@ -66,9 +68,9 @@ write-long-indicators-requires c κs =
     let b = broken-0 _ _ _ _ (s .pre .0) in
     let l = c .before .before .before .before .before .before .long-columns .ensures in
     let z = c .before .before .before .before .clear in (
-      (subst (λ (l : List ℕ). BrokenOver 8 l 0 (now (x .word))) (sym l) b, ap length l ∙ length-upTo 64),
+      (subst (λ (l : List ℕ). BrokenOver 8 l 0 (now (x .word))) (sym l) b, ap length l ∙ length-columns 8 (x .series) long-curve),
       (
-        omega (arith, b .long, length-upTo 64, z .kept .0, s .pre .2),
+        omega (arith, b .long, length-columns 8 (x .series) long-curve, z .kept .0, s .pre .2),
         λ i. ap (λ (v : List ℕ). getD v i 0) (z .ensures) ∙ getD-zeros (length (now (x .work))) i,
       ),
     )
@@ -91,10 +93,10 @@ slice-aggregate-eliminate-long-2 c = search needs
 eliminate-long-requires : tie.Need-eliminate-long-requires
 eliminate-long-requires c κs =
     let i = c .before .before .before .before .before in
-    let b = i .before .before .before .before .before .before .before .before .before .before .before .pre .0 in
+    let s = i .before .before .before .before .before .before .before .before .before .before .before in
     let w = lent i in
     let g = c .before .before .known-long-grid in
-    ((omega (arith, b .order, length-upTo 64), w .2, w .3), (g .ensures .1, g .ensures .0 .symbols))
+    ((omega (arith, s .pre .0 .order, length-columns 8 (s .args .series) long-curve), w .2, w .3), (g .ensures .1, g .ensures .0 .symbols))
 
 slice-aggregate-read-rest : tie.Need-slice-aggregate-read-rest
 slice-aggregate-read-rest c = search needs
@@ -105,7 +107,7 @@ read-rest-requires c κs =
     let s = i .before .before .before .before .before .before .before .before .before .before .before in
     let b = s .pre .0 in
     let long = c .before .before .before .before .before .eliminate-long .kept .1 .1 .1 .0 ∙ c .before .before .before .before .before .before .before .before .known-long-grid .ensures .1 in
-    (long-curve, omega (arith, b .order, length-upTo 64, long), omega (arith, long), omega (arith, lent i .0), s .pre .1)
+    (long-curve, omega (arith, b .order, length-columns 8 (s .args .series) long-curve, long), omega (arith, long), omega (arith, lent i .0), s .pre .1)
 
 same-length : tie.Need-same-length
 same-length c = search needs

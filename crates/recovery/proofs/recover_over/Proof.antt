@@ -10,9 +10,9 @@ use Rattle.field.proofs.Fields.{fieldOf}
 use Rattle.field.proofs.Curves.{short-sizes}
 use Rattle.poly.specs.inner.Ranges.{Below}
 use Rattle.poly.proofs.Entries.{getD-zeros}
-use Rattle.points.specs.Points.{columnsOf}
+use Rattle.points.specs.Series.{columnsOf}
 use Rattle.points.proofs.AllColumns.{columns-are, columns-fit}
-use Rattle.points.proofs.ColumnPoints.{length-upTo}
+use Rattle.points.proofs.Series.{length-columns}
 use Rattle.code.specs.Recovered.{reading, answerOf}
 use Rattle.code.specs.Terms.{size}
 use Rattle.code.specs.Word.{wordOf}
@@ -24,8 +24,8 @@ use Rattle.recovery.proofs.recover_over.Statement.{statement}
 use Rattle.recovery.proofs.recover_over.Tie as tie
 
 -- the columns that are lent are all
-all : (c : tie.After-columns) → let q = c .before .before .before .args .q in take (q * q) (c .columns .result) ≡ columnsOf q
-all c = let s = c .before .before .before in columns-are (s .args .q) (s .pre .0 .2) (s .args .q * s .args .q) _ refl (c .columns .ensures)
+all : (c : tie.After-columns) → let x = c .before .before .before .args in take (x .q * x .q) (c .columns .result) ≡ columnsOf (x .q) (x .series)
+all c = let s = c .before .before .before in columns-are (s .args .q) (s .args .series) (s .pre .0 .2) (s .args .q * s .args .q) _ refl (c .columns .ensures)
 
 over : (c : tie.After-columns) → let x = c .before .before .before .args in BrokenOver (x .q) (take (x .q * x .q) (c .columns .result)) (x .m) (now (x .word))
 over c =
@@ -33,7 +33,9 @@ over c =
     subst (λ (l : List ℕ). BrokenOver (s .args .q) l (s .args .m) (now (s .args .word))) (sym (all c)) (s .pre .0 .0)
 
 full : (c : tie.After-columns) → let q = c .before .before .before .args .q in length (take (q * q) (c .columns .result)) ≡ q * q
-full c = let q = c .before .before .before .args .q in ap length (all c) ∙ length-upTo (q * q)
+full c =
+    let s = c .before .before .before in
+    ap length (all c) ∙ length-columns (s .args .q) (s .args .series) (s .pre .0 .0 .over .curve)
 
 -- the gaps' vectors, and the part of them that is lent
 lent : (c : tie.After-write-short-indicators) → let w = c .write-short-indicators in
@@ -60,7 +62,7 @@ mul-c : tie.Need-mul-c
 mul-c c = let s = c .before .before .before in omega (arith, short-sizes (s .args .q) (s .pre .0 .2) .symbols)
 
 array-share-prefix-columns : tie.Need-array-share-prefix-columns
-array-share-prefix-columns c = let s = c .before .before .before in columns-fit (s .args .q) (s .pre .0 .2) _ _ refl (c .columns .ensures)
+array-share-prefix-columns c = let s = c .before .before .before in columns-fit (s .args .q) (s .args .series) (s .pre .0 .2) _ _ refl (c .columns .ensures)
 
 slice-aggregate-write-short-indicators : tie.Need-slice-aggregate-write-short-indicators
 slice-aggregate-write-short-indicators c = sym (full (c .before))

@@ -16,7 +16,7 @@ enum-told c = search needs
 returns : tie.Need-returns
 returns c =
     let x = c .before .before .before .before .before .args in
-    encoded-refused (x .q) (x .m) (now (x .places)) (now (x .symbols)) (now (x .word)) _ (c .before .check-call .ensures) (c .match .keys2)
+    encoded-refused (x .q) (x .series) (x .m) (now (x .places)) (now (x .symbols)) (now (x .word)) _ (c .before .check-call .ensures) (c .match .keys2)
 
 write-codeword-requires : tie.Need-write-codeword-requires
 write-codeword-requires c κs = sym (c .before .before .before .check-call .ensures) ∙ c .before .enum-told .given .1

@@ -9,8 +9,8 @@ use denote.Ref.{now}
 use lib.ListN.{length, take, replicate, length-replicate}
 use Rattle.field.proofs.Curves.{short-curve, short-sizes}
 use Rattle.field.proofs.Fields.{fieldOf}
-use Rattle.points.specs.Points.{columnsOf}
-use Rattle.points.proofs.ColumnPoints.{full-places}
+use Rattle.points.specs.Series.{columnsOf}
+use Rattle.points.proofs.Series.{full-places}
 use Rattle.poly.proofs.Fronts.{take-replicate, front-fits, front-again, again-long}
 use Rattle.code.specs.Recovered.{reading}
 use Rattle.code.specs.Terms.{size}
@@ -24,8 +24,8 @@ use Rattle.systematic.proofs.write_codeword.Statement.{statement}
 use Rattle.systematic.proofs.write_codeword.Tie as tie
 
 -- what the checks say
-passed : (s : tie.Start) → let x = s .args in Passed (x .q) (x .m) (now (x .places)) (now (x .symbols)) (length (now (x .word)))
-passed s = let x = s .args in checks-passed (x .q) (x .m) (now (x .places)) (now (x .symbols)) (length (now (x .word))) (s .pre)
+passed : (s : tie.Start) → let x = s .args in Passed (x .q) (x .series) (x .m) (now (x .places)) (now (x .symbols)) (length (now (x .word)))
+passed s = let x = s .args in checks-passed (x .q) (x .series) (x .m) (now (x .places)) (now (x .symbols)) (length (now (x .word))) (s .pre)
 
 few : (s : tie.Start) → length (now (s .args .word)) ≤ 64
 few s = omega (arith, passed s .fits, short-sizes _ (passed s .short) .points)
@@ -39,11 +39,11 @@ placed-long c = c .place .kept .1 .1 .0 ∙ lent (c .before .before .before .bef
 
 -- what comes back is the broken word
 placed-is : (c : tie.After-place) → let s = c .before .before .before .before .before in let x = s .args in
-    c .place .last .1 .1 .0 ≡ brokenWord (x .q) (x .m) (now (x .places)) (now (x .symbols)) (now (x .word)) (s .pre)
+    c .place .last .1 .1 .0 ≡ brokenWord (x .q) (x .series) (x .m) (now (x .places)) (now (x .symbols)) (now (x .word)) (s .pre)
 placed-is c =
     let s = c .before .before .before .before .before in
     let x = s .args in
-    let n : length (now (x .word)) ≡ x .q * length (columnsOf (x .q)) = passed s .fits ∙ sym (full-places _ (short-curve _ (passed s .short))) in
+    let n : length (now (x .word)) ≡ x .q * length (columnsOf (x .q) (x .series)) = passed s .fits ∙ sym (full-places _ _ (short-curve _ (passed s .short))) in
     c .place .ensures
     ∙ ap (λ (l : List ℕ). laid (now (x .places)) (now (x .symbols)) l (length (now (x .places))))
     (take-replicate _ 64 255 (few s) ∙ ap (λ (k : ℕ). replicate {A = ℕ} k 255) n)
@@ -71,8 +71,8 @@ complete-requires c κs =
     let p = c .before .before .before in
     let s = p .before .before .before .before .before in
     let x = s .args in (
-      subst (BrokenOver (x .q) (columnsOf (x .q)) (x .m)) (sym (front-again _ (p .place .last .1 .1 .0) _ (placed-long p) ∙ placed-is p))
-          (broken-over (x .q) (x .m) (now (x .places)) (now (x .symbols)) (now (x .word)) (s .pre)),
+      subst (BrokenOver (x .q) (columnsOf (x .q) (x .series)) (x .m)) (sym (front-again _ (p .place .last .1 .1 .0) _ (placed-long p) ∙ placed-is p))
+          (broken-over (x .q) (x .series) (x .m) (now (x .places)) (now (x .symbols)) (now (x .word)) (s .pre)),
       passed s .short,
       sym (again-long _ (p .place .last .1 .1 .0) _ (placed-long p)),
     )
@@ -85,9 +85,9 @@ returns c =
     let p = c .before .before .before .before .before .before in
     let s = p .before .before .before .before .before in
     let x = s .args in
-    let q = x .q in
-    sym (completed q (x .m) (now (x .places)) (now (x .symbols)) (now (x .word)) (s .pre))
-    ∙ ap (λ (l : List ℕ). completion (wordOf q (columnsOf q) (x .m)) (reading (fieldOf q .size) (size q (x .m)) (wordOf q (columnsOf q) (x .m)) l) (now (x .word)))
+    let q = x .q in let series = x .series in
+    sym (completed q series (x .m) (now (x .places)) (now (x .symbols)) (now (x .word)) (s .pre))
+    ∙ ap (λ (l : List ℕ). completion (wordOf q (columnsOf q series) (x .m)) (reading (fieldOf q .size) (size q (x .m)) (wordOf q (columnsOf q series) (x .m)) l) (now (x .word)))
     (sym (front-again _ (p .place .last .1 .1 .0) _ (placed-long p) ∙ placed-is p))
     ∙ c .before .before .complete .ensures
 

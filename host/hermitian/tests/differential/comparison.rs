@@ -2,6 +2,7 @@
 
 use hermitian::entries;
 use reference::code;
+use reference::conversion;
 use reference::generator::Generator;
 use reference::mend;
 use reference::outcome::Outcome;
@@ -18,10 +19,11 @@ pub enum Entry {
     Mend,
     RecoverLong,
     EncodeAt,
+    Convert,
 }
 
 impl Entry {
-    pub const COUNT: usize = 6;
+    pub const COUNT: usize = 7;
 
     pub const ALL: [Entry; Entry::COUNT] = [
         Entry::Encode,
@@ -30,11 +32,12 @@ impl Entry {
         Entry::Mend,
         Entry::RecoverLong,
         Entry::EncodeAt,
+        Entry::Convert,
     ];
 
-    /// The entries that name a curve and take one input. [`crate::long`] and
-    /// [`crate::encoding_at`] call the other two.
-    pub const OF_CURVES: [Entry; 4] = [Entry::Encode, Entry::Unencode, Entry::Recover, Entry::Mend];
+    /// The entries that name a curve and an order and take one input. [`crate::long`],
+    /// [`crate::encoding_at`] and [`crate::converting`] call the other three.
+    pub const OF_ORDERS: [Entry; 4] = [Entry::Encode, Entry::Unencode, Entry::Recover, Entry::Mend];
 
     pub fn name(self) -> &'static str {
         match self {
@@ -44,6 +47,7 @@ impl Entry {
             Entry::Mend => "mend",
             Entry::RecoverLong => "long",
             Entry::EncodeAt => "encode at",
+            Entry::Convert => "convert",
         }
     }
 
@@ -58,14 +62,15 @@ impl Entry {
     pub fn input_length(self, shape: Shape) -> usize {
         match self {
             Entry::Encode | Entry::EncodeAt => shape.k,
-            Entry::Unencode | Entry::Recover | Entry::Mend | Entry::RecoverLong => shape.n,
+            Entry::Unencode | Entry::Recover | Entry::Mend => shape.n,
+            Entry::RecoverLong | Entry::Convert => shape.n,
         }
     }
 
     /// The lengths of the outputs that aren't refused.
     pub fn output_lengths(self, shape: Shape) -> Vec<usize> {
         match self {
-            Entry::Encode | Entry::EncodeAt => vec![shape.n],
+            Entry::Encode | Entry::EncodeAt | Entry::Convert => vec![shape.n],
             Entry::Unencode | Entry::Recover | Entry::RecoverLong => vec![shape.k],
             Entry::Mend => vec![shape.k, shape.n, shape.n],
         }
@@ -77,6 +82,8 @@ impl Entry {
 pub struct Call {
     pub entry: Entry,
     pub q: u8,
+    pub series: u8,
+    /// 0 for the converter, which takes none.
     pub m: u16,
     pub input: Vec<u8>,
     pub output_lengths: Vec<usize>,
@@ -88,6 +95,7 @@ impl Call {
         Call {
             entry,
             q: shape.q(),
+            series: shape.series(),
             m: shape.m,
             input,
             output_lengths: entry.output_lengths(shape),
@@ -95,24 +103,26 @@ impl Call {
     }
 }
 
-/// Makes the call both ways and compares all that they give.
-pub fn compare(call: &Call, generator: &mut Generator, tally: &mut Tally) {
+/// Makes the call both ways and compares all that they give. Returns what the outputs
+/// then hold.
+pub fn compare(call: &Call, generator: &mut Generator, tally: &mut Tally) -> Vec<Vec<u8>> {
     compare_with(
         |outputs| call_reference(call, outputs).packed(),
         call,
         generator,
         tally,
-    );
+    )
 }
 
 /// Makes the call, demands the same answer and the same bytes as `expect` gives
-/// and writes, and that the library wrote nothing else.
+/// and writes, and that the library wrote nothing else. Returns what the outputs then
+/// hold.
 pub fn compare_with(
     expect: impl FnOnce(&mut [Vec<u8>]) -> u32,
     call: &Call,
     generator: &mut Generator,
     tally: &mut Tally,
-) {
+) -> Vec<Vec<u8>> {
     let lengths = call.output_lengths.iter();
     let before: Vec<Vec<u8>> = lengths.map(|&length| generator.bytes(length)).collect();
     let input = Guarded::around(generator, &call.input);
@@ -143,7 +153,9 @@ pub fn compare_with(
         "{}: refused, but an output is written",
         described(call)
     );
-    tally.count(call.entry, call.q, call.m, (answer >> 16) as u8);
+    let number = (answer >> 16) as u8;
+    tally.count(call.entry, call.q, call.series, call.m, number);
+    expected_outputs
 }
 
 fn call_library(call: &Call, input: &Guarded, outputs: &mut [Guarded]) -> u32 {
@@ -154,6 +166,7 @@ fn call_library(call: &Call, input: &Guarded, outputs: &mut [Guarded]) -> u32 {
         }
         (Entry::Recover, [message]) => call_plain(entries::hermitian_recover, call, input, message),
         (Entry::Mend, [message, mended, marks]) => call_mend(call, input, message, mended, marks),
+        (Entry::Convert, [out]) => call_convert(call, input, out),
         (entry, outputs) => no_such_call(entry, outputs.len()),
     }
 }
@@ -165,6 +178,7 @@ fn call_plain(entry: entries::Entry, call: &Call, input: &Guarded, output: &mut 
     unsafe {
         entry(
             call.q,
+            call.series,
             call.m,
             input.as_ptr(),
             input.len(),
@@ -187,6 +201,7 @@ fn call_mend(
     unsafe {
         entries::hermitian_mend(
             call.q,
+            call.series,
             call.m,
             word.as_ptr(),
             word.len(),
@@ -200,14 +215,30 @@ fn call_mend(
     }
 }
 
+fn call_convert(call: &Call, word: &Guarded, out: &mut Guarded) -> u32 {
+    let (word, out) = (word.lent(), out.lent_mut());
+    // Safety: as for the other entries; the two come from different vectors.
+    unsafe {
+        entries::hermitian_convert(
+            call.q,
+            call.series,
+            word.as_ptr(),
+            word.len(),
+            out.as_mut_ptr(),
+            out.len(),
+        )
+    }
+}
+
 fn call_reference(call: &Call, outputs: &mut [Vec<u8>]) -> Outcome {
-    let (q, m, input) = (call.q, call.m, &call.input);
+    let (q, series, m, input) = (call.q, call.series, call.m, &call.input);
     match (call.entry, outputs) {
-        (Entry::Encode, [word]) => code::encode(q, m, input, word),
-        (Entry::Unencode, [message]) => code::unencode(q, m, input, message),
-        (Entry::Recover, [message]) => code::recover(q, m, input, message),
+        (Entry::Encode, [word]) => code::encode(q, series, m, input, word),
+        (Entry::Unencode, [message]) => code::unencode(q, series, m, input, message),
+        (Entry::Recover, [message]) => code::recover(q, series, m, input, message),
+        (Entry::Convert, [out]) => conversion::convert(q, series, input, out),
         (Entry::Mend, [message, mended, marks]) => {
-            let (outcome, count) = mend::mend(q, m, input, message, mended, marks);
+            let (outcome, count) = mend::mend(q, series, m, input, message, mended, marks);
             // From C the count is read from the marks.
             let ones = || marks.iter().filter(|&&mark| mark == 1).count();
             assert!(outcome != Outcome::ACCEPTED || usize::from(count) == ones());
@@ -223,9 +254,10 @@ fn no_such_call(entry: Entry, output_count: usize) -> ! {
 
 fn described(call: &Call) -> String {
     format!(
-        "{} at q = {}, m = {}, input {:?}, output lengths {:?}",
+        "{} at q = {}, series {}, m = {}, input {:?}, output lengths {:?}",
         call.entry.name(),
         call.q,
+        call.series,
         call.m,
         call.input,
         call.output_lengths

@@ -15,6 +15,7 @@ use crate::tally::Tally;
 /// The arguments of one call.
 pub struct Encoding {
     pub q: u8,
+    pub series: u8,
     pub m: u16,
     pub places: Vec<u16>,
     pub symbols: Vec<u8>,
@@ -26,6 +27,7 @@ impl Encoding {
     pub fn fitting(shape: Shape, places: Vec<u16>, symbols: Vec<u8>) -> Encoding {
         Encoding {
             q: shape.q(),
+            series: shape.series(),
             m: shape.m,
             places,
             symbols,
@@ -51,8 +53,15 @@ impl Comparison<'_> {
     pub fn encode(&mut self, encoding: &Encoding) -> u8 {
         let before = self.generator.bytes(encoding.word_length);
         let mut word = before.clone();
-        let Encoding { q, m, .. } = *encoding;
-        let outcome = systematic::encode_at(q, m, &encoding.places, &encoding.symbols, &mut word);
+        let Encoding {
+            q,
+            series,
+            m,
+            places,
+            symbols,
+            ..
+        } = encoding;
+        let outcome = systematic::encode_at(*q, *series, *m, places, symbols, &mut word);
         self.expect(encoding, &before, outcome, &word);
         outcome.number
     }
@@ -87,8 +96,9 @@ impl Comparison<'_> {
         } else {
             assert!(word.is_unchanged(), "{}: word written", described());
         }
+        let Encoding { q, series, m, .. } = *encoding;
         self.tally
-            .count(Entry::EncodeAt, encoding.q, encoding.m, expected.number);
+            .count(Entry::EncodeAt, q, series, m, expected.number);
     }
 }
 
@@ -104,6 +114,7 @@ fn call_library(
     unsafe {
         entries::hermitian_encode_at(
             encoding.q,
+            encoding.series,
             encoding.m,
             places.as_ptr(),
             places.len(),
@@ -120,8 +131,9 @@ fn is_codeword_with_the_symbols(encoding: &Encoding, word: &[u8]) {
     assert_eq!(symbols_at(&encoding.places, word), encoding.symbols);
     let mut message = vec![99; encoding.symbols.len()];
     let mut again = vec![99; word.len()];
-    let unencoded = hermitian::unencode(encoding.q, encoding.m, word, &mut message);
-    let encoded = hermitian::encode(encoding.q, encoding.m, &message, &mut again);
+    let Encoding { q, series, m, .. } = *encoding;
+    let unencoded = hermitian::unencode(q, series, m, word, &mut message);
+    let encoded = hermitian::encode(q, series, m, &message, &mut again);
     assert_eq!((unencoded, encoded), (Ok(()), Ok(())), "{word:?}");
     assert_eq!(again, word);
 }
@@ -135,14 +147,15 @@ fn described(
 ) -> String {
     let Encoding {
         q,
+        series,
         m,
         places,
         symbols,
         word_length,
     } = encoding;
     format!(
-        "encode at q = {q}, m = {m}, places {places:?}, symbols {symbols:?}, word length \
-         {word_length}: the library answers {answer} with {word:?}, expected is {} with {right:?}",
+        "encode at q = {q}, series {series}, m = {m}, places {places:?}, symbols {symbols:?}, \
+         word length {word_length}: the library answers {answer} with {word:?}, expected is {} with {right:?}",
         expected.packed()
     )
 }

@@ -9,10 +9,10 @@ use crate::comparison::{compare, Call, Entry};
 use crate::tally::Tally;
 
 /// Whole, damaged and arbitrary words, and words with any number missing, at
-/// every order of both curves of short blocks.
+/// every order of both curves of short blocks in both series.
 pub fn at_every_order(generator: &mut Generator, rounds: usize) -> Tally {
     let mut tally = Tally::new();
-    for shape in Shape::every_short() {
+    for shape in Shape::every_short_in_both_series() {
         for _ in 0..rounds {
             well_formed_calls(shape, generator, &mut tally);
         }
@@ -56,12 +56,13 @@ fn broken_words(shape: Shape, generator: &mut Generator, word: &[u8]) -> Vec<Vec
 }
 
 /// Every word of the small curve, each place a symbol or missing, at every
-/// order.
+/// order. Both series list the small curve's points alike, and each call names one of
+/// them by chance.
 pub fn every_small_broken_word(generator: &mut Generator) -> Tally {
     every_small(generator, Entry::Recover, 5)
 }
 
-/// Every whole word of the small curve at every order.
+/// Every whole word of the small curve at every order, the series by chance.
 pub fn every_small_word(generator: &mut Generator) -> Tally {
     every_small(generator, Entry::Unencode, 4)
 }
@@ -70,25 +71,68 @@ fn every_small(generator: &mut Generator, entry: Entry, base: u32) -> Tally {
     let mut tally = Tally::new();
     for shape in Shape::every_order(Curve::Q_IS_2) {
         for number in 0..base.pow(8) {
-            let call = Call::fitting(entry, shape, sample::numbered_word(number, base));
+            let mut call = Call::fitting(entry, shape, sample::numbered_word(number, base));
+            call.series = either_series(generator);
             compare(&call, generator, &mut tally);
         }
     }
     tally
 }
 
+/// 1 or 2.
+pub fn either_series(generator: &mut Generator) -> u8 {
+    generator.byte_from(1, 2)
+}
+
+/// Mostly one that is refused.
+pub fn arbitrary_series(generator: &mut Generator) -> u8 {
+    let choices = [0, 3, 129, 255, generator.byte()];
+    choices[generator.below(choices.len())]
+}
+
 /// Every curve number with every order of 8 bits, and every order of 16 bits with
-/// each curve and with a number that names none.
+/// each curve and with a number that names none; the series by chance.
 pub fn every_curve_number_and_order(generator: &mut Generator) -> Tally {
     let mut tally = Tally::new();
     for q in 0..=255 {
         for m in 0..=255 {
-            every_entry(q, m, generator, &mut tally);
+            every_entry(q, either_series(generator), m, generator, &mut tally);
         }
     }
     for q in [2, 3, 4, 8] {
         for m in 256..=u16::MAX {
-            every_entry(q, m, generator, &mut tally);
+            every_entry(q, either_series(generator), m, generator, &mut tally);
+        }
+    }
+    tally
+}
+
+/// Every series number, with good and bad curve numbers and orders, and with the
+/// lengths right and arbitrary.
+pub fn every_series(generator: &mut Generator) -> Tally {
+    let mut tally = Tally::new();
+    let pairs = [
+        (2, 3),
+        (4, 37),
+        (8, 300),
+        (2, 8),
+        (4, 64),
+        (8, 512),
+        (3, 0),
+        (0, 64),
+    ];
+    for series in 0..=255 {
+        for (q, m) in pairs {
+            every_entry(q, series, m, generator, &mut tally);
+        }
+        for (q, m) in pairs.into_iter().take(3) {
+            let curve = Curve::named(q).expect("one of the three curves");
+            let shape = Shape::of(curve, m);
+            for entry in Entry::OF_ORDERS {
+                let mut call = Call::fitting(entry, shape, vec![0; entry.input_length(shape)]);
+                call.series = series;
+                compare(&call, generator, &mut tally);
+            }
         }
     }
     tally
@@ -96,12 +140,13 @@ pub fn every_curve_number_and_order(generator: &mut Generator) -> Tally {
 
 /// With lengths that fit some curve. Those of the strap are right if the order's
 /// low byte is 37.
-fn every_entry(q: u8, m: u16, generator: &mut Generator, tally: &mut Tally) {
-    for entry in Entry::OF_CURVES {
+fn every_entry(q: u8, series: u8, m: u16, generator: &mut Generator, tally: &mut Tally) {
+    for entry in Entry::OF_ORDERS {
         let mut length = |_| [8, 32, 64][generator.below(3)];
         let call = Call {
             entry,
             q,
+            series,
             m,
             input: vec![0; length(0)],
             output_lengths: (0..entry.output_count()).map(length).collect(),
@@ -110,11 +155,11 @@ fn every_entry(q: u8, m: u16, generator: &mut Generator, tally: &mut Tally) {
     }
 }
 
-/// Every byte at an arbitrary index, at every order, by every entry.
+/// Every byte at an arbitrary index, at every order in both series, by every entry.
 pub fn every_byte(generator: &mut Generator) -> Tally {
     let mut tally = Tally::new();
-    for shape in Shape::every_short() {
-        for entry in Entry::OF_CURVES {
+    for shape in Shape::every_short_in_both_series() {
+        for entry in Entry::OF_ORDERS {
             for value in shape.field_size..=255 {
                 let length = entry.input_length(shape);
                 let mut input = sample::symbols(generator, shape, length);
@@ -129,11 +174,11 @@ pub fn every_byte(generator: &mut Generator) -> Tally {
 /// One fault or several at once: the first check that applies must decide.
 pub fn faulty(generator: &mut Generator, rounds: usize) -> Tally {
     let mut tally = Tally::new();
-    let shapes: Vec<Shape> = Shape::every_short().collect();
+    let shapes: Vec<Shape> = Shape::every_short_in_both_series().collect();
     for round in 0..rounds {
         let shape = shapes[generator.below(shapes.len())];
         let call = faulty_call(
-            Entry::OF_CURVES[round % Entry::OF_CURVES.len()],
+            Entry::OF_ORDERS[round % Entry::OF_ORDERS.len()],
             shape,
             generator,
         );
@@ -150,6 +195,9 @@ fn faulty_call(entry: Entry, shape: Shape, generator: &mut Generator) -> Call {
     // occurs often.
     if generator.below(12) == 0 {
         call.q = generator.byte();
+    }
+    if generator.below(10) == 0 {
+        call.series = arbitrary_series(generator);
     }
     if generator.below(8) == 0 {
         call.m = arbitrary_order(shape, generator);
@@ -220,11 +268,11 @@ pub fn write_arbitrary_value(input: &mut [u8], shape: Shape, generator: &mut Gen
     }
 }
 
-/// The strap's own order, words with 0 to 64 missing, sometimes damaged.
+/// The strap's own order in both series in turn, words with 0 to 64 missing, sometimes
+/// damaged.
 pub fn strap_blocks(generator: &mut Generator, rounds: usize) -> Tally {
     let mut tally = Tally::new();
-    let shape = Shape::of(Curve::Q_IS_4, 37);
-    for round in 0..rounds {
+    for (round, shape) in (0..rounds).zip(strap_in_both_series().into_iter().cycle()) {
         let word = sample::codeword(generator, shape);
         let mut broken = sample::with_known(generator, &word, round % 65);
         if generator.below(4) == 0 {
@@ -237,4 +285,10 @@ pub fn strap_blocks(generator: &mut Generator, rounds: usize) -> Tally {
         );
     }
     tally
+}
+
+pub fn strap_in_both_series() -> [Shape; 2] {
+    Curve::Q_IS_4
+        .in_both_series()
+        .map(|curve| Shape::of(curve, 37))
 }

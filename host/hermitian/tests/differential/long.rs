@@ -9,6 +9,7 @@ use reference::sample::{self, Shape};
 
 use crate::comparison::{compare, compare_with, Call, Entry};
 use crate::guarded::Guarded;
+use crate::inputs::{arbitrary_series, either_series};
 use crate::tally::Tally;
 
 /// Memory that work slices are lent from, the longest of twice the right length. It
@@ -52,6 +53,7 @@ impl WorkMemory {
 
 /// The arguments of one recovery.
 struct Recovery {
+    series: u8,
     m: u16,
     word: Vec<u8>,
     message_length: usize,
@@ -61,6 +63,7 @@ struct Recovery {
 impl Recovery {
     fn fitting(shape: Shape, word: Vec<u8>) -> Recovery {
         Recovery {
+            series: shape.series(),
             m: shape.m,
             word,
             message_length: shape.k,
@@ -103,7 +106,10 @@ impl Comparison<'_> {
         let before = message.clone();
         // The reference looks at the work slice's length alone.
         let mut work = vec![0; recovery.work_length];
-        let outcome = code::recover_long(recovery.m, &recovery.word, &mut message, &mut work);
+        let Recovery {
+            series, m, word, ..
+        } = recovery;
+        let outcome = code::recover_long(*series, *m, word, &mut message, &mut work);
         self.expect(recovery, &before, outcome.packed(), &message);
     }
 
@@ -122,7 +128,7 @@ impl Comparison<'_> {
         let word = Guarded::around(self.generator, &recovery.word);
         let mut output = Guarded::around(self.generator, before);
         let work = self.work.lent_mut(recovery.work_length);
-        let answer = call_library(recovery.m, &word, &mut output, work);
+        let answer = call_library(recovery, &word, &mut output, work);
         let described = || described(recovery, answer, expected);
         assert!(answer == expected, "{}", described());
         assert!(output.lent() == message, "{}: message", described());
@@ -137,7 +143,8 @@ impl Comparison<'_> {
             let kept = self.work.is_unchanged();
             assert!(kept, "{}: work slice written", described());
         }
-        self.tally.count(Entry::RecoverLong, 8, recovery.m, number);
+        let Recovery { series, m, .. } = *recovery;
+        self.tally.count(Entry::RecoverLong, 8, series, m, number);
     }
 }
 
@@ -152,13 +159,19 @@ fn written(message: &mut [u8], expected: Result<&[u8], Outcome>) -> u32 {
     }
 }
 
-fn call_library(m: u16, word: &Guarded, message: &mut Guarded, work: &mut [u8]) -> u32 {
+fn call_library(
+    recovery: &Recovery,
+    word: &Guarded,
+    message: &mut Guarded,
+    work: &mut [u8],
+) -> u32 {
     let (word, message) = (word.lent(), message.lent_mut());
     // Safety: slices are never null and are good for their length, and the three come
     // from different vectors.
     unsafe {
         entries::hermitian_recover_long(
-            m,
+            recovery.series,
+            recovery.m,
             word.as_ptr(),
             word.len(),
             message.as_mut_ptr(),
@@ -171,17 +184,18 @@ fn call_library(m: u16, word: &Guarded, message: &mut Guarded, work: &mut [u8]) 
 
 fn described(recovery: &Recovery, answer: u32, expected: u32) -> String {
     format!(
-        "long recovery at m = {}, word {:?}, message length {}, work length {}: the library \
-         answers {answer}, expected is {expected}",
-        recovery.m, recovery.word, recovery.message_length, recovery.work_length
+        "long recovery in series {} at m = {}, word {:?}, message length {}, work length {}: \
+         the library answers {answer}, expected is {expected}",
+        recovery.series, recovery.m, recovery.word, recovery.message_length, recovery.work_length
     )
 }
 
-/// At every order of long blocks: the entries that take them, with results that are
+/// At every order of long blocks in both series: the entries that take them, with results that are
 /// known from how the words are made, and those that refuse them.
 pub fn at_every_order(generator: &mut Generator) -> Tally {
     let mut comparison = Comparison::new(generator);
-    for shape in Shape::every_order(Curve::Q_IS_8) {
+    let curves = Curve::Q_IS_8.in_both_series();
+    for shape in curves.into_iter().flat_map(Shape::every_order) {
         comparison.known_results(shape);
         let word = sample::symbols(comparison.generator, shape, shape.n);
         comparison.call(Entry::Recover, shape, word.clone());
@@ -219,18 +233,21 @@ impl Comparison<'_> {
     }
 }
 
-/// About every tenth order, against the reference's elimination: any number of
-/// symbols missing, numbers near where the answer turns, whole columns, damaged and
-/// arbitrary words.
+/// About every tenth order in both series in turn, against the reference's elimination:
+/// any number of symbols missing, numbers near where the answer turns, whole columns,
+/// damaged and arbitrary words.
 pub fn missing_symbols(generator: &mut Generator, rounds: usize) -> Tally {
     let mut comparison = Comparison::new(generator);
     let first = comparison.generator.below(10);
     let ends = [0, 1, 7, 8, 9, 16, 54, 55, 56, 300, 510, 511];
     for m in (first..512).step_by(10).chain(ends) {
-        let shape = Shape::of(Curve::Q_IS_8, m as u16);
-        for _ in 0..rounds {
+        let shapes = Curve::Q_IS_8
+            .in_both_series()
+            .map(|curve| Shape::of(curve, m as u16));
+        for shape in shapes.into_iter().cycle().take(rounds) {
             comparison.broken_words(shape);
         }
+        let shape = shapes[comparison.generator.below(2)];
         let arbitrary = sample::symbols(comparison.generator, shape, shape.n);
         comparison.call(Entry::Unencode, shape, arbitrary);
     }
@@ -263,7 +280,8 @@ pub fn faulty(generator: &mut Generator, rounds: usize) -> Tally {
     let mut comparison = Comparison::new(generator);
     for round in 0..rounds {
         let m = comparison.generator.below(512) as u16;
-        let shape = Shape::of(Curve::Q_IS_8, m);
+        let curve = Curve::Q_IS_8.in_both_series()[comparison.generator.below(2)];
+        let shape = Shape::of(curve, m);
         match round % 3 {
             0 => comparison.faulty_call(Entry::Encode, shape),
             1 => comparison.faulty_call(Entry::Unencode, shape),
@@ -281,6 +299,7 @@ impl Comparison<'_> {
         let call = Call {
             entry,
             q: 8,
+            series: self.series(shape),
             m: self.order(shape),
             input: self.faulty_input(shape, length),
             output_lengths: vec![self.wrong_length(output_length)],
@@ -292,6 +311,7 @@ impl Comparison<'_> {
     fn faulty_recovery(&mut self, shape: Shape) {
         let is_message_wrong = self.generator.below(2) == 0;
         let recovery = Recovery {
+            series: self.series(shape),
             m: self.order(shape),
             word: self.faulty_input(shape, shape.n),
             message_length: if is_message_wrong {
@@ -302,6 +322,14 @@ impl Comparison<'_> {
             work_length: self.wrong_work_length(),
         };
         self.recover(&recovery);
+    }
+
+    /// Mostly the shape's own.
+    fn series(&mut self, shape: Shape) -> u8 {
+        match self.generator.below(8) {
+            0 => arbitrary_series(self.generator),
+            _ => shape.series(),
+        }
     }
 
     /// Mostly the shape's own; else one near a limit, or one whose low byte or low
@@ -367,8 +395,8 @@ impl Comparison<'_> {
     }
 }
 
-/// Every order of 16 bits by recovery of long blocks, with slices that are right for
-/// some order or for no long block.
+/// Every order of 16 bits by recovery of long blocks, the series by chance, with slices
+/// that are right for some order or for no long block.
 pub fn every_order_of_16_bits(generator: &mut Generator) -> Tally {
     let mut comparison = Comparison::new(generator);
     for m in 0..=u16::MAX {
@@ -376,12 +404,35 @@ pub fn every_order_of_16_bits(generator: &mut Generator) -> Tally {
         let word_length = [64, 511, 512, 512, 512, 513][comparison.generator.below(6)];
         let value = [0, 63, 64, 254][comparison.generator.below(4)];
         let recovery = Recovery {
+            series: either_series(comparison.generator),
             m,
             word: vec![value; word_length],
             message_length: [own_length, own_length + 1, 32][comparison.generator.below(3)],
             work_length: comparison.wrong_work_length(),
         };
         comparison.recover(&recovery);
+    }
+    comparison.tally
+}
+
+/// Every series number by recovery of long blocks, with good and bad orders, and with
+/// the lengths right and wrong.
+pub fn every_series(generator: &mut Generator) -> Tally {
+    let mut comparison = Comparison::new(generator);
+    for series in 0..=255 {
+        for m in [0, 8, 300, 511, 512, 812, u16::MAX] {
+            let shape = Shape::of(Curve::Q_IS_8, m % 512);
+            for word_length in [shape.n, shape.n + 1] {
+                let recovery = Recovery {
+                    series,
+                    m,
+                    word: vec![MISSING; word_length],
+                    message_length: shape.k,
+                    work_length: [WORK_LENGTH, 512][comparison.generator.below(2)],
+                };
+                comparison.recover(&recovery);
+            }
+        }
     }
     comparison.tally
 }

@@ -2,6 +2,7 @@
 //! call. Set HERMITIAN_SEED to repeat a run.
 
 mod comparison;
+mod converting;
 mod encoding_at;
 mod guarded;
 mod inputs;
@@ -21,27 +22,30 @@ const LEAST_CALLS: u64 = 200_000;
 const LEAST_MEND_CALLS: u64 = 100_000;
 const LEAST_LONG_RECOVERIES: u64 = 70_000;
 const LEAST_CALLS_WITH_PLACES: u64 = 100_000;
+const LEAST_CONVERSIONS: u64 = 100_000;
 
 type Group = (&'static str, fn(&mut Generator) -> Tally);
 
 /// The mix follows what the reference costs: some microseconds at q = 2, up
 /// to some milliseconds at the high orders of q = 4, and up to 0.1 s for one
 /// elimination at q = 8.
-const GROUPS: [Group; 20] = [
+const GROUPS: [Group; 28] = [
     ("every order", |g| inputs::at_every_order(g, 12)),
-    ("strap blocks", |g| inputs::strap_blocks(g, 3_250)),
+    ("strap blocks", |g| inputs::strap_blocks(g, 6_500)),
     ("faulty calls", |g| inputs::faulty(g, 80_000)),
     ("every byte", inputs::every_byte),
     ("every q and m", inputs::every_curve_number_and_order),
+    ("every series", inputs::every_series),
     ("small whole words", inputs::every_small_word),
     ("small broken words", inputs::every_small_broken_word),
     ("mending, every order", |g| mending::at_every_order(g, 6)),
-    ("mending, strap blocks", |g| mending::strap_blocks(g, 4_500)),
+    ("mending, strap blocks", |g| mending::strap_blocks(g, 9_000)),
     ("mending, small words", mending::every_small_word),
     ("long, every order", long::at_every_order),
-    ("long, missing symbols", |g| long::missing_symbols(g, 5)),
+    ("long, missing symbols", |g| long::missing_symbols(g, 6)),
     ("long, faulty calls", |g| long::faulty(g, 9_000)),
     ("long, every m", long::every_order_of_16_bits),
+    ("long, every series", long::every_series),
     ("places, every order", |g| places::at_every_order(g, 10)),
     ("places, strap blocks", |g| places::strap_blocks(g, 500)),
     ("places, faulty calls", |g| places::faulty(g, 30_000)),
@@ -50,7 +54,18 @@ const GROUPS: [Group; 20] = [
         "places, every q and m",
         places::every_curve_number_and_order,
     ),
+    ("places, every series", places::every_series),
     ("places, small blocks", places::every_small_set),
+    ("converting, words", |g| converting::words(g, 6)),
+    ("converting, small words", converting::every_small_word),
+    ("converting, faulty calls", |g| {
+        converting::faulty(g, 30_000)
+    }),
+    ("converting, every fault", converting::every_fault),
+    (
+        "converting, every q and series",
+        converting::every_curve_number_and_series,
+    ),
 ];
 
 #[test]
@@ -66,6 +81,7 @@ fn the_library_answers_as_the_reference() {
     assert!(all.calls_of(Entry::Mend) >= LEAST_MEND_CALLS);
     assert!(all.calls_of(Entry::RecoverLong) >= LEAST_LONG_RECOVERIES);
     assert!(all.calls_of(Entry::EncodeAt) >= LEAST_CALLS_WITH_PLACES);
+    assert!(all.calls_of(Entry::Convert) >= LEAST_CONVERSIONS);
     every_answer_occurred(&all);
     every_order_was_accepted(&all);
 }
@@ -111,14 +127,16 @@ fn say(line: &str) {
 /// occurs; a message always has a word; a whole word never leaves several
 /// messages; 11 and 12 are those of mending, which has no 9 and no 10; 13 is the
 /// field's; 14 is that of long recovery, which names no curve and so has no 1; 15 and
-/// 16 are those of encoding at places, where k symbols always have a word otherwise.
+/// 16 are those of encoding at places, where k symbols always have a word otherwise;
+/// the converter takes no order and any word.
 fn every_answer_occurred(tally: &Tally) {
     for entry in Entry::ALL {
-        for number in 0..=16 {
+        for number in 0..=17 {
             let possible = match number {
                 1 => entry != Entry::RecoverLong,
-                0..=5 => true,
-                9 => !matches!(entry, Entry::Encode | Entry::EncodeAt | Entry::Mend),
+                2 => entry != Entry::Convert,
+                0..=5 | 17 => true,
+                9 => matches!(entry, Entry::Unencode | Entry::Recover | Entry::RecoverLong),
                 10 => matches!(entry, Entry::Recover | Entry::RecoverLong),
                 11 | 12 => entry == Entry::Mend,
                 14 => entry == Entry::RecoverLong,
@@ -132,9 +150,9 @@ fn every_answer_occurred(tally: &Tally) {
 }
 
 /// From the order n - g on nothing is mended. Recovery of long blocks is a call of
-/// its own, and they aren't mended.
+/// its own, and they aren't mended. The converter takes no order.
 fn every_order_was_accepted(tally: &Tally) {
-    for entry in Entry::ALL {
+    for (entry, series) in Entry::ALL.map(|entry| [(entry, 1), (entry, 2)]).concat() {
         for (q, n, g) in [(2, 8, 1), (4, 64, 6), (8, 512, 28)] {
             for m in 0..n {
                 let possible = match entry {
@@ -142,9 +160,11 @@ fn every_order_was_accepted(tally: &Tally) {
                     Entry::EncodeAt | Entry::Recover => q != 8,
                     Entry::Mend => q != 8 && m < n - g,
                     Entry::RecoverLong => q == 8,
+                    Entry::Convert => m == 0,
                 };
-                let count = tally.accepted_at(entry, q, m);
-                assert_eq!(count > 0, possible, "{} at q = {q}, m = {m}", entry.name());
+                let count = tally.accepted_at(entry, q, series, m);
+                let name = entry.name();
+                assert_eq!(count > 0, possible, "{name} at q = {q}, {series}, m = {m}");
             }
         }
     }

@@ -7,13 +7,15 @@ use reference::sample::misleading::{self, with_wrong_columns};
 use reference::sample::{self, Shape};
 
 use crate::comparison::{compare, compare_with, Call, Entry};
+use crate::inputs::{either_series, strap_in_both_series};
 use crate::tally::Tally;
 
 /// Words with every number of wrong symbols up to t + 1 and with more, and
-/// words that are no codeword with wrong symbols, at every order of both curves.
+/// words that are no codeword with wrong symbols, at every order of both curves in
+/// both series.
 pub fn at_every_order(generator: &mut Generator, rounds: usize) -> Tally {
     let mut tally = Tally::new();
-    for shape in Shape::every_short() {
+    for shape in Shape::every_short_in_both_series() {
         for _ in 0..rounds {
             for word in wrong_words(shape, generator) {
                 compare_mend(shape, word, generator, &mut tally);
@@ -49,11 +51,11 @@ fn wrong_words(shape: Shape, generator: &mut Generator) -> Vec<Vec<u8>> {
     words
 }
 
-/// The strap's own order, with 0 to 14 wrong symbols where up to 10 are mended.
+/// The strap's own order in both series in turn, with 0 to 14 wrong symbols where up
+/// to 10 are mended.
 pub fn strap_blocks(generator: &mut Generator, rounds: usize) -> Tally {
     let mut tally = Tally::new();
-    let shape = Shape::of(Curve::Q_IS_4, 37);
-    for round in 0..rounds {
+    for (round, shape) in (0..rounds).zip(strap_in_both_series().into_iter().cycle()) {
         let codeword = sample::codeword(generator, shape);
         let kinds = [sample::with_wrong, with_wrong_columns, between_codewords];
         let kind = kinds[generator.below(kinds.len())];
@@ -63,15 +65,16 @@ pub fn strap_blocks(generator: &mut Generator, rounds: usize) -> Tally {
     tally
 }
 
-/// Every word of the small curve at every order. What the library must give
-/// is looked up in the list of all codewords, which is made once.
+/// Every word of the small curve at every order, the series by chance. What the
+/// library must give is looked up in the list of all codewords, which is made once.
 pub fn every_small_word(generator: &mut Generator) -> Tally {
     let mut tally = Tally::new();
     for shape in Shape::every_order(Curve::Q_IS_2) {
         let codewords = sample::all_messages_with_words(shape);
         for number in 0..4u32.pow(8) {
             let word = sample::numbered_word(number, 4);
-            let call = Call::fitting(Entry::Mend, shape, word.clone());
+            let mut call = Call::fitting(Entry::Mend, shape, word.clone());
+            call.series = either_series(generator);
             let expect = |outputs: &mut [Vec<u8>]| mend_by_trial(shape, &codewords, &word, outputs);
             compare_with(expect, &call, generator, &mut tally);
         }

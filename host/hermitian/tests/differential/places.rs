@@ -10,13 +10,17 @@ use reference::sample::places::{self, symbols_at};
 use reference::sample::{self, Shape};
 
 use crate::encoding_at::{Comparison, Encoding};
-use crate::inputs::{arbitrary_order, write_arbitrary_value, wrong_length};
+use crate::inputs::{
+    arbitrary_order, arbitrary_series, either_series, strap_in_both_series, write_arbitrary_value,
+    wrong_length,
+};
 use crate::tally::Tally;
 
-/// Sets of k places of every kind at every order of both curves of short blocks.
+/// Sets of k places of every kind at every order of both curves of short blocks in
+/// both series.
 pub fn at_every_order(generator: &mut Generator, rounds: usize) -> Tally {
     let mut comparison = Comparison::new(generator);
-    for shape in Shape::every_short() {
+    for shape in Shape::every_short_in_both_series() {
         for _ in 0..rounds {
             comparison.sets_of_every_kind(shape);
         }
@@ -24,11 +28,13 @@ pub fn at_every_order(generator: &mut Generator, rounds: usize) -> Tally {
     comparison.tally
 }
 
-/// The strap's own order.
+/// The strap's own order in both series.
 pub fn strap_blocks(generator: &mut Generator, rounds: usize) -> Tally {
     let mut comparison = Comparison::new(generator);
     for _ in 0..rounds {
-        comparison.sets_of_every_kind(Shape::of(Curve::Q_IS_4, 37));
+        for shape in strap_in_both_series() {
+            comparison.sets_of_every_kind(shape);
+        }
     }
     comparison.tally
 }
@@ -73,7 +79,8 @@ impl Comparison<'_> {
 }
 
 /// The small curve at all orders: every set of k places with all symbols, held against
-/// the list of all codewords, and every list of up to 4 numbers from 0 to 8.
+/// the list of all codewords, and every list of up to 4 numbers from 0 to 8. The series
+/// is one of the two by chance, which list the small curve's points alike.
 pub fn every_small_set(generator: &mut Generator) -> Tally {
     let mut comparison = Comparison::new(generator);
     for shape in Shape::every_order(Curve::Q_IS_2) {
@@ -99,6 +106,7 @@ impl Comparison<'_> {
         for number in 0..4u32.pow(shape.k as u32) {
             encoding.symbols = sample::numbered_word(number, 4);
             encoding.symbols.truncate(shape.k);
+            encoding.series = either_series(self.generator);
             let expected = if two_agree {
                 Err(Outcome::PLACES_LEAVE_SEVERAL)
             } else {
@@ -113,36 +121,66 @@ impl Comparison<'_> {
             let digit = |index| (number / 9u32.pow(index) % 9) as u16;
             let list = (0..shape.k as u32).map(digit).collect();
             let symbols = sample::message(self.generator, shape);
-            self.encode(&Encoding::fitting(shape, list, symbols));
+            let mut encoding = Encoding::fitting(shape, list, symbols);
+            encoding.series = either_series(self.generator);
+            self.encode(&encoding);
         }
     }
 }
 
 /// Every curve number with every order of 8 bits, and every order of 16 bits with
-/// each curve and with a number that names none. The lengths fit some orders.
+/// each curve and with a number that names none; the series by chance. The lengths fit
+/// some orders.
 pub fn every_curve_number_and_order(generator: &mut Generator) -> Tally {
     let mut comparison = Comparison::new(generator);
     let low_orders = (0..=255).flat_map(|q| (0..=255).map(move |m| (q, m)));
     let curves = [2, 3, 4, 8].into_iter();
     let high_orders = curves.flat_map(|q| (256..=u16::MAX).map(move |m| (q, m)));
     for (q, m) in low_orders.chain(high_orders) {
-        let mut k = || [1, 7, 32][comparison.generator.below(3)];
+        let series = either_series(comparison.generator);
+        comparison.encode_zeros(q, series, m);
+    }
+    comparison.tally
+}
+
+/// Every series number, with good and bad curve numbers and orders, and with the
+/// lengths right and arbitrary.
+pub fn every_series(generator: &mut Generator) -> Tally {
+    let mut comparison = Comparison::new(generator);
+    for series in 0..=255 {
+        for (q, m) in [(2, 3), (2, 8), (4, 37), (4, 64), (8, 37), (3, 64)] {
+            comparison.encode_zeros(q, series, m);
+        }
+        for shape in [Shape::of(Curve::Q_IS_2, 3), Shape::of(Curve::Q_IS_4, 37)] {
+            let places = places::arbitrary(comparison.generator, shape);
+            let mut encoding = Encoding::fitting(shape, places, vec![0; shape.k]);
+            encoding.series = series;
+            comparison.encode(&encoding);
+        }
+    }
+    comparison.tally
+}
+
+impl Comparison<'_> {
+    /// At the first places, with lengths that fit some orders.
+    fn encode_zeros(&mut self, q: u8, series: u8, m: u16) {
+        let mut k = || [1, 7, 32][self.generator.below(3)];
         let encoding = Encoding {
             q,
+            series,
             m,
             places: (0..k()).collect(),
             symbols: vec![0; usize::from(k())],
-            word_length: [8, 64][comparison.generator.below(2)],
+            word_length: [8, 64][self.generator.below(2)],
         };
-        comparison.encode(&encoding);
+        self.encode(&encoding);
     }
-    comparison.tally
 }
 
 /// One fault or several at once: the first check that applies must decide.
 pub fn faulty(generator: &mut Generator, rounds: usize) -> Tally {
     let mut comparison = Comparison::new(generator);
-    let shapes: Vec<Shape> = Shape::every_short().collect();
+    let shapes: Vec<Shape> = Shape::every_short_in_both_series().collect();
     for _ in 0..rounds {
         let shape = shapes[comparison.generator.below(shapes.len())];
         let encoding = faulty_encoding(shape, comparison.generator);
@@ -157,6 +195,9 @@ fn faulty_encoding(shape: Shape, generator: &mut Generator) -> Encoding {
     let mut encoding = Encoding::fitting(shape, places, symbols);
     if generator.below(12) == 0 {
         encoding.q = generator.byte();
+    }
+    if generator.below(10) == 0 {
+        encoding.series = arbitrary_series(generator);
     }
     if generator.below(8) == 0 {
         encoding.m = arbitrary_order(shape, generator);
@@ -192,12 +233,12 @@ fn spoil(list: &mut Vec<u16>, shape: Shape, generator: &mut Generator) {
     }
 }
 
-/// One fault alone, of every kind, at every order: in each item of the places and of
+/// One fault alone, of every kind, at every order in both series: in each item of the places and of
 /// the symbols, and in each length up to n + 2 and beyond. The last check finds the
 /// places bad at most orders.
 pub fn every_fault(generator: &mut Generator) -> Tally {
     let mut comparison = Comparison::new(generator);
-    for shape in Shape::every_short() {
+    for shape in Shape::every_short_in_both_series() {
         let places = places::column_by_column(comparison.generator, shape);
         for index in 0..shape.k {
             comparison.bad_place(shape, &places, index);

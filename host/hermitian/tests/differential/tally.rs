@@ -4,7 +4,8 @@ use std::fmt;
 
 use crate::comparison::Entry;
 
-const NUMBERS: usize = 17;
+const NUMBERS: usize = 18;
+const SERIES: usize = 2;
 const CURVES: usize = 3;
 const ORDERS: usize = 512;
 
@@ -12,22 +13,23 @@ const ORDERS: usize = 512;
 #[derive(Clone)]
 pub struct Tally {
     answers: [[u64; NUMBERS]; Entry::COUNT],
-    /// Accepted calls by entry and order, for q = 2, 4 and 8.
-    accepted: [[[u64; ORDERS]; CURVES]; Entry::COUNT],
+    /// Accepted calls by entry, series and order, for q = 2, 4 and 8.
+    accepted: [[[[u64; ORDERS]; CURVES]; SERIES]; Entry::COUNT],
 }
 
 impl Tally {
     pub fn new() -> Tally {
         Tally {
             answers: [[0; NUMBERS]; Entry::COUNT],
-            accepted: [[[0; ORDERS]; CURVES]; Entry::COUNT],
+            accepted: [[[[0; ORDERS]; CURVES]; SERIES]; Entry::COUNT],
         }
     }
 
-    pub fn count(&mut self, entry: Entry, q: u8, m: u16, number: u8) {
+    pub fn count(&mut self, entry: Entry, q: u8, series: u8, m: u16, number: u8) {
         self.answers[entry as usize][usize::from(number)] += 1;
         if number == 0 {
-            self.accepted[entry as usize][curve_index(q)][usize::from(m)] += 1;
+            let of_entry = &mut self.accepted[entry as usize];
+            of_entry[series_index(series)][curve_index(q)][usize::from(m)] += 1;
         }
     }
 
@@ -38,7 +40,8 @@ impl Tally {
         }
         let mine = self.accepted.as_flattened_mut().as_flattened_mut();
         let others = other.accepted.as_flattened().as_flattened();
-        for (count, more) in mine.iter_mut().zip(others) {
+        let counts = mine.as_flattened_mut().iter_mut();
+        for (count, more) in counts.zip(others.as_flattened()) {
             *count += more;
         }
     }
@@ -51,8 +54,8 @@ impl Tally {
         self.answers[entry as usize].iter().sum()
     }
 
-    pub fn accepted_at(&self, entry: Entry, q: u8, m: u16) -> u64 {
-        self.accepted[entry as usize][curve_index(q)][usize::from(m)]
+    pub fn accepted_at(&self, entry: Entry, q: u8, series: u8, m: u16) -> u64 {
+        self.accepted[entry as usize][series_index(series)][curve_index(q)][usize::from(m)]
     }
 
     pub fn total(&self) -> u64 {
@@ -67,6 +70,15 @@ fn curve_index(q: u8) -> usize {
         4 => 1,
         8 => 2,
         _ => panic!("a call with q = {q} was accepted"),
+    }
+}
+
+/// Of a series that an accepted call named.
+fn series_index(series: u8) -> usize {
+    match series {
+        1 => 0,
+        2 => 1,
+        _ => panic!("a call with series {series} was accepted"),
     }
 }
 

@@ -3,13 +3,14 @@
 
 use reference::case_record::{Case, Runner, SLICE_ROOM};
 use reference::code::MISSING;
-use reference::curve::Curve;
+use reference::curve::{Curve, Series};
 use reference::file_pair;
 use reference::generator::Generator;
 use reference::job_sample::job_cases;
 use reference::long_curve_sample::long_curve_cases;
 use reference::mend_sample::mend_cases;
 use reference::sample::{self, Shape, BAD_CURVES, BAD_ORDERS, ROUNDS};
+use reference::series_sample::series_cases;
 use reference::session::{Session, CONFLICT, PLACE_COUNT};
 use reference::sixteen_bit_sample::sixteen_bit_cases;
 use reference::systematic_sample::systematic_cases;
@@ -26,40 +27,68 @@ fn main() -> ExitCode {
     file_pair::write_to_arguments("cases CASE_FILE EXPECTED_FILE", &records, &expected)
 }
 
+/// Those from before request T-11 come first: that they and their lines stay as they
+/// were shows that series 1 gives what the calls gave before there were two. Then
+/// come the same with series 2, but for field operations, which name none, and the
+/// cases of numbers that name no series and of the converter.
+fn all_cases() -> Vec<Case> {
+    let mut cases = cases_of_series(Series::One);
+    cases.extend(refused_openings());
+    let of_series_2 = cases_of_series(Series::Two).into_iter();
+    cases.extend(of_series_2.filter(is_over_points));
+    cases.extend(series_cases());
+    cases
+}
+
+fn is_over_points(case: &Case) -> bool {
+    !b"+*i".contains(&case.op)
+}
+
+/// They hand back the session and the job that are there before any opening.
+fn refused_openings() -> [Case; 2] {
+    let refused = Case::of_opening(0, 2, 0);
+    let refused_job = Case {
+        op: b'j',
+        ..refused.clone()
+    };
+    [refused, refused_job]
+}
+
 /// Those from before request T-10 come first: that they and their lines stay as they
 /// were shows that the older calls give what they gave.
-fn all_cases() -> Vec<Case> {
-    let mut cases = cases_before_chosen_places();
-    cases.extend(systematic_cases());
+fn cases_of_series(series: Series) -> Vec<Case> {
+    let mut cases = cases_before_chosen_places(series);
+    cases.extend(systematic_cases(series));
     cases
 }
 
 /// Those from before request T-09 come first: that they and their lines stay as they
 /// were, but for the calls that take q = 8 now, shows that short blocks give what they
 /// gave.
-fn cases_before_chosen_places() -> Vec<Case> {
-    let mut cases = cases_before_long_blocks();
-    cases.extend(long_curve_cases());
+fn cases_before_chosen_places(series: Series) -> Vec<Case> {
+    let mut cases = cases_before_long_blocks(series);
+    cases.extend(long_curve_cases(series));
     cases
 }
 
 /// Those from before request T-08 come first: that they and their lines stay as they
 /// were shows that calls with numbers of 8 bits give what they gave.
-fn cases_before_long_blocks() -> Vec<Case> {
-    let mut cases = eight_bit_cases();
-    cases.extend(sixteen_bit_cases());
+fn cases_before_long_blocks(series: Series) -> Vec<Case> {
+    let mut cases = eight_bit_cases(series);
+    cases.extend(sixteen_bit_cases(series));
     cases
 }
 
-fn eight_bit_cases() -> Vec<Case> {
+fn eight_bit_cases(series: Series) -> Vec<Case> {
     let mut builder = Builder {
+        series,
         generator: Generator::with_seed(SEED),
         cases: Vec::new(),
     };
     builder.before_any_opening();
     builder.field_cases();
     builder.bad_curves_and_orders();
-    for shape in Shape::every_short() {
+    for shape in Shape::every_short_in(series) {
         builder.encode_cases(shape);
         builder.unencode_cases(shape);
         builder.recover_cases(shape);
@@ -69,14 +98,25 @@ fn eight_bit_cases() -> Vec<Case> {
     builder.round_runs();
     builder.raw_sessions();
     builder.worked_sessions();
-    builder.cases.extend(mend_cases());
-    builder.cases.extend(job_cases());
+    builder.cases.extend(mend_cases(series));
+    builder.cases.extend(job_cases(series));
     builder.cases
 }
 
 struct Builder {
+    series: Series,
     generator: Generator,
     cases: Vec<Case>,
+}
+
+impl Builder {
+    fn shape(&self, curve: Curve, m: u16) -> Shape {
+        Shape::of(curve.in_series(self.series), m)
+    }
+
+    fn every_order(&self, curve: Curve) -> impl Iterator<Item = Shape> {
+        Shape::every_order(curve.in_series(self.series))
+    }
 }
 
 /// Cases of the field.
@@ -136,6 +176,7 @@ impl Builder {
         self.cases.push(Case {
             op,
             q,
+            series: self.series.number(),
             m,
             input,
             output,
@@ -284,7 +325,8 @@ fn slice_lengths(op: u8, shape: Shape) -> (usize, usize) {
 /// Cases of sessions.
 impl Builder {
     fn open(&mut self, q: u8, m: u16) {
-        self.cases.push(Case::of_opening(q, m));
+        let series = self.series.number();
+        self.cases.push(Case::of_opening(q, series, m));
     }
 
     fn round(&mut self) -> u8 {
@@ -295,6 +337,7 @@ impl Builder {
     fn set(&mut self, q: u8, m: u16, places: &[u8]) {
         let session = Session {
             q,
+            series: self.series.number(),
             m,
             places: places.try_into().expect("64 places"),
             rounds: [(); PLACE_COUNT].map(|()| self.round()),
@@ -332,12 +375,12 @@ impl Builder {
     }
 
     fn session_runs(&mut self) {
-        for shape in Shape::every_order(Curve::Q_IS_2) {
+        for shape in self.every_order(Curve::Q_IS_2) {
             for damaged in [false, true] {
                 self.session_run(shape, shape.n, damaged);
             }
         }
-        for shape in Shape::every_order(Curve::Q_IS_4) {
+        for shape in self.every_order(Curve::Q_IS_4) {
             let (known, damaged) = match shape.m {
                 12 | 63 => (shape.n, false),
                 37 => (shape.n, true),
@@ -345,7 +388,7 @@ impl Builder {
             };
             self.session_run(shape, known, damaged);
         }
-        self.session_run(Shape::of(Curve::Q_IS_4, 37), 50, false);
+        self.session_run(self.shape(Curve::Q_IS_4, 37), 50, false);
         let bad_curves = BAD_CURVES.into_iter().flat_map(|q| [(q, 3), (q, 255)]);
         for (q, m) in bad_curves.chain(BAD_ORDERS) {
             self.open(q, m);
@@ -356,14 +399,14 @@ impl Builder {
 
     /// Conflicts in one round that leave exactly m + 1 or m symbols, and fewer.
     fn conflict_runs(&mut self) {
-        for shape in Shape::every_order(Curve::Q_IS_2) {
+        for shape in self.every_order(Curve::Q_IS_2) {
             let m = usize::from(shape.m);
             for left in [m + 1, m, m / 2] {
                 self.conflict_run(shape, left);
             }
         }
         for m in [2, 5, 11, 37, 62] {
-            let shape = Shape::of(Curve::Q_IS_4, m);
+            let shape = self.shape(Curve::Q_IS_4, m);
             self.conflict_run(shape, usize::from(m) + 1);
             self.conflict_run(shape, usize::from(m));
         }
@@ -420,11 +463,11 @@ impl Builder {
     }
 
     fn round_runs(&mut self) {
-        for shape in Shape::every_order(Curve::Q_IS_2) {
+        for shape in self.every_order(Curve::Q_IS_2) {
             self.round_run(shape, 40);
         }
         for m in [2, 11, 37] {
-            self.round_run(Shape::of(Curve::Q_IS_4, m), 60);
+            self.round_run(self.shape(Curve::Q_IS_4, m), 60);
         }
     }
 
@@ -497,15 +540,15 @@ impl Builder {
     }
 
     fn raw_sessions(&mut self) {
-        for shape in Shape::every_order(Curve::Q_IS_2) {
+        for shape in self.every_order(Curve::Q_IS_2) {
             self.arbitrary_bytes_after_the_word(shape);
         }
         for curve in Curve::SHORT {
             for m in [3, 7] {
-                self.stored_values(Shape::of(curve, m));
+                self.stored_values(self.shape(curve, m));
             }
         }
-        self.stored_values(Shape::of(Curve::Q_IS_4, 37));
+        self.stored_values(self.shape(Curve::Q_IS_4, 37));
         let bad_curves = BAD_CURVES.into_iter().flat_map(|q| [(q, 3), (q, 255)]);
         for (q, m) in bad_curves.chain(BAD_ORDERS) {
             self.bad_stored_numbers(q, m);
@@ -593,7 +636,7 @@ impl Builder {
     /// Asked with an empty slice after each arrival too, which changes nothing.
     fn worked_sessions(&mut self) {
         for worked in worked_sessions() {
-            let shape = Shape::of(Curve::Q_IS_2, worked.m);
+            let shape = self.shape(Curve::Q_IS_2, worked.m);
             self.open(shape.q(), shape.m);
             for (place, symbol, round) in worked.arrivals {
                 self.arrive_in_round(round, usize::from(place), symbol);
@@ -619,6 +662,9 @@ impl Builder {
 mod tests {
     use super::*;
     use reference::case_record::RECORD_LENGTH;
+    use reference::checksum::checksum;
+    use reference::outcome::Outcome;
+    use reference::{code, conversion};
     use std::collections::BTreeSet;
 
     #[test]
@@ -627,9 +673,9 @@ mod tests {
     }
 
     #[test]
-    fn there_are_about_29000_cases_and_each_fits_its_record() {
+    fn there_are_about_59000_cases_and_each_fits_its_record() {
         let cases = all_cases();
-        assert!((28000..=30000).contains(&cases.len()), "{}", cases.len());
+        assert!((58000..=60000).contains(&cases.len()), "{}", cases.len());
         for case in &cases {
             let record: [u8; RECORD_LENGTH] = case.to_record();
             assert_eq!(&Case::from_record(&record), case);
@@ -640,7 +686,7 @@ mod tests {
     /// The cases from before request T-08 and their lines, by number and checksum.
     #[test]
     fn the_cases_of_8_bits_come_first_and_are_unchanged() {
-        let eight_bit = eight_bit_cases();
+        let eight_bit = eight_bit_cases(Series::One);
         assert_eq!(eight_bit.len(), 20_067);
         assert_eq!(all_cases()[..20_067], eight_bit);
         assert_eq!(checksum(&records(&eight_bit)), 0x58D0_75EB_720B_C1DE);
@@ -651,32 +697,85 @@ mod tests {
     /// The cases from before request T-09 and their lines, by number and checksum.
     #[test]
     fn the_cases_before_long_blocks_come_first_and_are_unchanged() {
-        let before = cases_before_long_blocks();
+        let before = cases_before_long_blocks(Series::One);
         assert_eq!(before.len(), 24_325);
         assert_eq!(all_cases()[..24_325], before);
         assert_eq!(checksum(&records(&before)), 0x0C23_295B_7637_8017);
-        let lines = lines_before_long_blocks(&before);
-        assert_eq!(checksum(lines.as_bytes()), 0x0E89_E96F_2513_BAD9);
-        let mut runner = Runner::default();
-        let now: String = before.iter().map(|case| runner.run(case)).collect();
-        let changed = lines.lines().zip(now.lines()).filter(|(a, b)| a != b);
+        let then = lines_before_long_blocks(&before);
+        assert_eq!(checksum(then.as_bytes()), 0x0E89_E96F_2513_BAD9);
+        let now = lines(&before);
+        let changed = then.lines().zip(now.lines()).filter(|(a, b)| a != b);
         assert_eq!(changed.count(), 40);
     }
 
     /// The cases from before request T-10 and their lines, by number and checksum.
     #[test]
     fn the_cases_before_chosen_places_come_first_and_are_unchanged() {
-        let before = cases_before_chosen_places();
+        let before = cases_before_chosen_places(Series::One);
         assert_eq!(before.len(), 26_759);
         assert_eq!(all_cases()[..26_759], before);
         assert_eq!(checksum(&records(&before)), 0x9833_9149_6A4C_8F82);
-        let mut runner = Runner::default();
-        let lines: String = before.iter().map(|case| runner.run(case)).collect();
-        assert_eq!(checksum(lines.as_bytes()), 0xFA67_B56B_44F0_F78A);
+        assert_eq!(checksum(lines(&before).as_bytes()), 0xFA67_B56B_44F0_F78A);
+    }
+
+    /// The cases from before request T-11 and their lines, by number and checksum.
+    #[test]
+    fn the_cases_before_the_second_series_come_first_and_are_unchanged() {
+        let before = cases_of_series(Series::One);
+        assert_eq!(before.len(), 29_257);
+        assert_eq!(all_cases()[..29_257], before);
+        assert_eq!(checksum(&records(&before)), 0x48F0_D8D8_5DAB_3F69);
+        assert_eq!(checksum(lines(&before).as_bytes()), 0x3B53_6B38_3DBF_8264);
+    }
+
+    /// Those of field operations apart. At q = 4 most messages have another word.
+    #[test]
+    fn the_same_cases_come_again_in_series_2() {
+        let [first, second] = Series::BOTH.map(|series| {
+            let cases = cases_of_series(series).into_iter();
+            cases.filter(is_over_points).collect::<Vec<Case>>()
+        });
+        let start = 29_257 + refused_openings().len();
+        assert_eq!(all_cases()[start..][..second.len()], second);
+        assert_eq!(second.len(), first.len());
+        let mut different = 0;
+        for (a, b) in first.iter().zip(&second) {
+            assert_eq!((a.op, a.q, a.m), (b.op, b.q, b.m));
+            let names_series = !b"akJc".contains(&a.op);
+            assert_eq!([a.series, b.series], [1, 1 + u8::from(names_series)]);
+            if a.op == b'e' {
+                assert_eq!((&a.input, a.output.len()), (&b.input, b.output.len()));
+                different += usize::from(a.q == 4 && is_another_word(a, b));
+            }
+        }
+        assert!(different >= 230, "{different}");
+    }
+
+    /// Whether encoding is accepted and gives another word in series 2, which must be
+    /// that of series 1, converted.
+    fn is_another_word(first: &Case, second: &Case) -> bool {
+        let [(outcome, word), (outcome_2, word_2)] = [first, second].map(|case| {
+            let Case { q, series, m, .. } = *case;
+            let mut word = case.output.clone();
+            (code::encode(q, series, m, &case.input, &mut word), word)
+        });
+        assert_eq!(outcome, outcome_2);
+        if outcome != Outcome::ACCEPTED {
+            return false;
+        }
+        let mut converted = vec![0; word.len()];
+        conversion::convert(first.q, 1, &word, &mut converted);
+        assert_eq!(converted, word_2);
+        word != word_2
     }
 
     fn records(cases: &[Case]) -> Vec<u8> {
         cases.iter().flat_map(Case::to_record).collect()
+    }
+
+    fn lines(cases: &[Case]) -> String {
+        let mut runner = Runner::default();
+        cases.iter().map(|case| runner.run(case)).collect()
     }
 
     /// The lines as they were when 8 named no curve: field operations, encode and
@@ -693,15 +792,8 @@ mod tests {
         cases.iter().map(line).collect()
     }
 
-    /// FNV-1a of 64 bits.
-    fn checksum(bytes: &[u8]) -> u64 {
-        bytes.iter().fold(0xCBF2_9CE4_8422_2325, |sum, &byte| {
-            (sum ^ u64::from(byte)).wrapping_mul(0x0100_0000_01B3)
-        })
-    }
-
     /// Each op gets every answer that it can give and no other, and every
-    /// order is encoded, unencoded and recovered.
+    /// order is encoded, unencoded and recovered in both series.
     #[test]
     fn every_answer_of_every_op_and_every_order_occur() {
         let cases = all_cases();
@@ -709,13 +801,13 @@ mod tests {
         let lines: Vec<String> = cases.iter().map(|case| runner.run(case)).collect();
         let answers: BTreeSet<String> = lines.iter().map(|line| op_and_number(line)).collect();
         assert_eq!(answers, possible_answers());
-        let accepted: BTreeSet<(u8, u8, u16)> = cases
+        let accepted: BTreeSet<(u8, u8, u8, u16)> = cases
             .iter()
             .zip(&lines)
             .filter(|(case, line)| b"eur".contains(&case.op) && op_and_number(line).ends_with(" 0"))
-            .map(|(case, _)| (case.op, case.q, case.m))
+            .map(|(case, _)| (case.op, case.q, case.series, case.m))
             .collect();
-        assert_eq!(accepted.len(), 3 * (8 + 64));
+        assert_eq!(accepted.len(), 3 * 2 * (8 + 64));
     }
 
     /// A missing place, and a symbol or a conflict where one of a lower, the same
@@ -747,21 +839,22 @@ mod tests {
             ("+", vec![0, 1, 4]),
             ("*", vec![0, 1, 4]),
             ("i", vec![0, 1, 4, 13]),
-            ("e", vec![0, 1, 2, 3, 4, 5]),
-            ("u", vec![0, 1, 2, 3, 4, 5, 9]),
-            ("r", vec![0, 1, 2, 3, 4, 5, 9, 10]),
-            ("o", vec![0, 1, 2]),
+            ("e", vec![0, 1, 2, 3, 4, 5, 17]),
+            ("u", vec![0, 1, 2, 3, 4, 5, 9, 17]),
+            ("r", vec![0, 1, 2, 3, 4, 5, 9, 10, 17]),
+            ("C", vec![0, 1, 3, 4, 5, 17]),
+            ("o", vec![0, 1, 2, 17]),
             ("s", vec![0]),
-            ("a", vec![0, 1, 2, 4, 6, 7]),
-            ("k", vec![0, 1, 2, 4, 5, 9, 10]),
-            ("m", vec![0, 1, 2, 3, 4, 5, 11, 12]),
-            ("j", vec![0, 1, 2, 3, 4]),
-            ("J", vec![0, 1, 2, 4]),
+            ("a", vec![0, 1, 2, 4, 6, 7, 17]),
+            ("k", vec![0, 1, 2, 4, 5, 9, 10, 17]),
+            ("m", vec![0, 1, 2, 3, 4, 5, 11, 12, 17]),
+            ("j", vec![0, 1, 2, 3, 4, 17]),
+            ("J", vec![0, 1, 2, 4, 17]),
             ("c", vec![0, 5, 9, 10]),
             ("y", vec![0]),
-            ("p", vec![0, 1, 2, 5, 9, 10]),
-            ("t", vec![0, 1, 2, 3, 4, 5, 9, 10]),
-            ("E", vec![0, 1, 2, 3, 4, 5, 15, 16]),
+            ("p", vec![0, 1, 2, 5, 9, 10, 17]),
+            ("t", vec![0, 1, 2, 3, 4, 5, 9, 10, 17]),
+            ("E", vec![0, 1, 2, 3, 4, 5, 15, 16, 17]),
         ];
         possible
             .into_iter()

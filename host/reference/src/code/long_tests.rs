@@ -1,6 +1,7 @@
 //! Tests of long blocks, q = 8 (request T-09).
 
 use super::*;
+use crate::curve::Series;
 use crate::generator::Generator;
 use crate::sample::{self, Shape};
 
@@ -8,10 +9,13 @@ const ORDERS: [u16; 14] = [0, 1, 7, 8, 9, 53, 54, 55, 56, 120, 300, 463, 510, 51
 
 const BYTE_BEFORE: u8 = 99;
 
-type Call = fn(u8, u16, &[u8], &mut [u8]) -> Outcome;
+type Call = fn(u8, u8, u16, &[u8], &mut [u8]) -> Outcome;
 
+/// These orders, in series 1 and 2 in turn.
 fn shapes() -> impl Iterator<Item = Shape> {
-    ORDERS.into_iter().map(|m| Shape::of(Curve::Q_IS_8, m))
+    let series = Series::BOTH.into_iter().cycle();
+    let in_series = |(m, series)| Shape::of(Curve::Q_IS_8.in_series(series), m);
+    ORDERS.into_iter().zip(series).map(in_series)
 }
 
 /// The answer with a slice of length k, which only a message is written to. The
@@ -19,14 +23,16 @@ fn shapes() -> impl Iterator<Item = Shape> {
 fn recovered(shape: Shape, word: &[u8]) -> Result<Vec<u8>, Outcome> {
     let mut work = vec![5; WORK_LENGTH];
     let answer = answered(shape.k, |message| {
-        recover_long(shape.m, word, message, &mut work)
+        recover_long(shape.series(), shape.m, word, message, &mut work)
     });
     assert!(work == [5; WORK_LENGTH]);
     answer
 }
 
 fn unencoded(shape: Shape, word: &[u8]) -> Result<Vec<u8>, Outcome> {
-    answered(shape.k, |message| unencode(8, shape.m, word, message))
+    answered(shape.k, |message| {
+        unencode(8, shape.series(), shape.m, word, message)
+    })
 }
 
 fn answered(length: usize, call: impl FnOnce(&mut [u8]) -> Outcome) -> Result<Vec<u8>, Outcome> {
@@ -41,17 +47,17 @@ fn answered(length: usize, call: impl FnOnce(&mut [u8]) -> Outcome) -> Result<Ve
 }
 
 /// Words of order 0 hold one symbol everywhere, and the message 0 1 of order 8 is
-/// x: each column holds its own number.
+/// x: each column holds its own x.
 #[test]
 fn words_that_are_known_without_the_curve() {
-    let mut word = [0; 512];
-    assert_eq!(encode(8, 0, &[63], &mut word), Outcome::ACCEPTED);
-    assert_eq!(word, [63; 512]);
-    assert_eq!(encode(8, 8, &[0, 1], &mut word), Outcome::ACCEPTED);
-    assert!((0..512).all(|place| usize::from(word[place]) == place / 8));
-    assert_eq!(encode(8, 9, &[0, 0, 1], &mut word), Outcome::ACCEPTED);
-    let y: Vec<u8> = Curve::Q_IS_8.points().iter().map(|p| p.y).collect();
-    assert_eq!(word, y.as_slice());
+    for curve in Curve::Q_IS_8.in_both_series() {
+        let encoded = |m, message: &[u8]| Shape::of(curve, m).word_of(message);
+        assert_eq!(encoded(0, &[63]), [63; 512]);
+        let x = encoded(8, &[0, 1]);
+        assert!((0..512).all(|place| x[place] == curve.columns()[place / 8]));
+        let y: Vec<u8> = curve.points().iter().map(|point| point.y).collect();
+        assert_eq!(encoded(9, &[0, 0, 1]), y);
+    }
 }
 
 #[test]
@@ -143,11 +149,20 @@ fn refusals_of_recovery_come_in_the_order_of_the_checks() {
     let mut generator = Generator::with_seed(96);
     for shape in shapes() {
         let (m, n, k) = (shape.m, shape.n, shape.k);
-        let refusal = |m: u16, word: &[u8], length: usize, work_length: usize| {
+        let refusal_in = |series, m, word: &[u8], length, work_length| {
             let mut work = vec![7; work_length];
-            let answer = answered(length, |message| recover_long(m, word, message, &mut work));
+            let answer = answered(length, |message| {
+                recover_long(series, m, word, message, &mut work)
+            });
             assert!(work == vec![7; work_length]);
             answer.expect_err("refused")
+        };
+        for series in (0..=255).filter(|series| ![1, 2].contains(series)) {
+            let refused = refusal_in(series, 512, &vec![64; n + 1], k + 1, 0);
+            assert_eq!(refused, Outcome::BAD_SERIES);
+        }
+        let refusal = |m, word: &[u8], length, work_length| {
+            refusal_in(shape.series(), m, word, length, work_length)
         };
         for order in [512, 513, 767, 768, u16::MAX] {
             let refused = refusal(order, &vec![64; n + 1], k + 1, 0);
@@ -185,9 +200,14 @@ fn refusals_of_encoding_and_unencoding_come_in_the_order_of_the_checks() {
         let (m, n, k) = (shape.m, shape.n, shape.k);
         let calls = [(encode as Call, k, n), (unencode, n, k)];
         for (call, input, output) in calls {
-            let refusal = |m: u16, values: &[u8], length: usize| {
-                answered(length, |slice| call(8, m, values, slice)).expect_err("refused")
+            let refusal_in = |series, m, values: &[u8], length| {
+                answered(length, |slice| call(8, series, m, values, slice)).expect_err("refused")
             };
+            for series in sample::BAD_SERIES {
+                let refused = refusal_in(series, 512, &vec![64; input + 1], output + 1);
+                assert_eq!(refused, Outcome::BAD_SERIES);
+            }
+            let refusal = |m, values: &[u8], length| refusal_in(shape.series(), m, values, length);
             for order in [512, 513, u16::MAX] {
                 let refused = refusal(order, &vec![64; input + 1], output + 1);
                 assert_eq!(refused, Outcome::ORDER_TOO_HIGH);
@@ -217,10 +237,10 @@ fn plain_recovery_takes_no_long_block() {
     let mut generator = Generator::with_seed(97);
     for shape in shapes() {
         let word = sample::codeword(&mut generator, shape);
-        for m in [shape.m, 512, u16::MAX] {
+        for (series, m) in [(1, shape.m), (2, shape.m), (0, 512), (1, u16::MAX)] {
             for word in [&word[..], &[MISSING; 512], &[64; 64], &[]] {
                 for length in [0, shape.k] {
-                    let refused = answered(length, |message| recover(8, m, word, message));
+                    let refused = answered(length, |message| recover(8, series, m, word, message));
                     assert_eq!(refused, Err(Outcome::UNKNOWN_CURVE));
                 }
             }

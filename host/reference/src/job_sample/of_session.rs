@@ -3,15 +3,15 @@
 use super::{pattern, Builder};
 use crate::case_record::Case;
 use crate::code::MISSING;
-use crate::curve::Curve;
 use crate::job::Job;
 use crate::sample::{self, Shape, BAD_CURVES, BAD_ORDERS, ROUNDS};
 use crate::session::{Session, CONFLICT, PLACE_COUNT};
 
 impl Builder {
     fn open_session(&mut self, shape: Shape) {
-        self.cases.push(Case::of_opening(shape.q(), shape.m));
-        self.session = Session::open(shape.q(), shape.m).0;
+        let (q, series, m) = shape.numbers();
+        self.cases.push(Case::of_opening(q, series, m));
+        self.session = Session::open(q, series, m).0;
     }
 
     /// With arbitrary rounds, also at missing places.
@@ -19,6 +19,7 @@ impl Builder {
         let rounds = [(); PLACE_COUNT].map(|()| self.round());
         self.session = Session {
             q,
+            series: self.series.number(),
             m,
             places,
             rounds,
@@ -111,11 +112,12 @@ impl Builder {
 /// Sessions whose symbols arrive one by one.
 impl Builder {
     pub(super) fn session_runs(&mut self) {
-        for shape in Shape::every_order(Curve::Q_IS_2) {
+        let [small, large] = sample::short_curves(self.series);
+        for shape in Shape::every_order(small) {
             self.session_run(shape, 16);
         }
         for m in [5, 37] {
-            self.session_run(Shape::of(Curve::Q_IS_4, m), 60);
+            self.session_run(Shape::of(large, m), 60);
         }
     }
 

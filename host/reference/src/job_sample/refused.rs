@@ -3,14 +3,13 @@
 use super::Builder;
 use crate::case_record::SLICE_ROOM;
 use crate::code::MISSING;
-use crate::curve::Curve;
 use crate::sample::{self, Shape, BAD_CURVES, BAD_ORDERS};
 
 impl Builder {
     /// A wrong length, a bad value, and both.
     pub(super) fn refused_words(&mut self, shape: Shape) {
         let n = shape.n;
-        let other_n = if shape.curve == Curve::Q_IS_2 { 64 } else { 8 };
+        let other_n = if shape.q() == 2 { 64 } else { 8 };
         let lengths = [0, n - 1, n + 1, SLICE_ROOM, other_n];
         let length = lengths[usize::from(shape.m) % lengths.len()];
         let word = sample::symbols(&mut self.generator, shape, length);

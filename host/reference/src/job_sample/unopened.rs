@@ -3,7 +3,7 @@
 use super::{wrong_lengths, Builder};
 use crate::case_record::{Case, SLICE_ROOM};
 use crate::code::MISSING;
-use crate::curve::Curve;
+use crate::curve::{Curve, Series};
 use crate::sample::{self, Shape, BAD_CURVES, BAD_ORDERS};
 use crate::session::{CONFLICT, PLACE_COUNT};
 
@@ -35,11 +35,12 @@ impl Numbers {
         }
     }
 
-    fn bad(q: u8, m: u16) -> Numbers {
-        let shape = match q {
-            2 => Shape::of(Curve::Q_IS_2, 7),
-            _ => Shape::of(Curve::Q_IS_4, 37),
+    fn bad(q: u8, series: Series, m: u16) -> Numbers {
+        let (curve, order) = match q {
+            2 => (Curve::Q_IS_2, 7),
+            _ => (Curve::Q_IS_4, 37),
         };
+        let shape = Shape::of(curve.in_series(series), order);
         Numbers { q, m, shape }
     }
 
@@ -53,26 +54,29 @@ impl Builder {
     /// A job from an opening is carried on in between, and at last one is opened
     /// from the session, as none of these changes either.
     pub(super) fn unopened_jobs(&mut self) {
-        let strap = Shape::of(Curve::Q_IS_4, 37);
+        let [small, large] = sample::short_curves(self.series);
+        let strap = Shape::of(large, 37);
         let word = self.broken_word(strap, 40);
         self.open(strap.q(), strap.m, &word);
-        let small = [0, 3, 7].map(|m| Shape::of(Curve::Q_IS_2, m));
-        let large = [0, 5, 11, 37, 63].map(|m| Shape::of(Curve::Q_IS_4, m));
+        let small = [0, 3, 7].map(|m| Shape::of(small, m));
+        let large = [0, 5, 11, 37, 63].map(|m| Shape::of(large, m));
         for shape in small.into_iter().chain(large) {
             self.every_kind(Numbers::of(shape));
             self.call(5, strap.k);
         }
-        let every_order = Shape::every_short().map(Numbers::of);
+        let series = self.series;
+        let every_order = Shape::every_short_in(series).map(Numbers::of);
         let bad_curves = BAD_CURVES.into_iter().flat_map(|q| [(q, 3), (q, 255)]);
         let bad = bad_curves.chain(BAD_ORDERS);
-        let bad = bad.map(|(q, m)| Numbers::bad(q, m)).flat_map(|n| [n; 2]);
+        let bad = bad.map(|(q, m)| Numbers::bad(q, series, m));
+        let bad = bad.flat_map(|numbers| [numbers; 2]);
         for numbers in every_order.chain(bad) {
             self.every_work_kind(numbers);
         }
         for _ in 0..ARBITRARY_RECORDS {
             self.arbitrary_record();
         }
-        for shape in Shape::every_short() {
+        for shape in Shape::every_short_in(series) {
             self.whole_word_in_four_calls(shape);
         }
         self.call(0, strap.k);
@@ -104,6 +108,7 @@ impl Builder {
         let case = Case {
             op: b'y',
             q: numbers.q,
+            series: self.series.number(),
             m: numbers.m,
             place: next_place,
             a: BUDGETS[self.generator.below(BUDGETS.len())],
@@ -123,6 +128,7 @@ impl Builder {
         let case = Case {
             op: b'y',
             q: shape.q(),
+            series: shape.series(),
             m: shape.m,
             a: shape.n as u8 / 4,
             input: places,
@@ -197,6 +203,7 @@ impl Builder {
         let case = Case {
             op: b'y',
             q,
+            series: self.series.number(),
             m: u16::from(m),
             place: u16::from(next_place),
             a,

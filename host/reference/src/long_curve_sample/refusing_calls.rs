@@ -39,6 +39,7 @@ impl Builder {
             self.cases.push(Case {
                 op: b't',
                 q: Q,
+                series: self.series.number(),
                 m,
                 a: 1,
                 b: 0,
@@ -53,7 +54,8 @@ impl Builder {
     /// What is handed back has q = 2, m = 0 and nothing arrived: asking and a call
     /// of the job show it.
     fn openings(&mut self, m: u16) {
-        self.cases.push(Case::of_opening(Q, m));
+        let series = self.series.number();
+        self.cases.push(Case::of_opening(Q, series, m));
         self.plain(b'k', 0, 1);
         for length in [64, 8, 0] {
             let word = self.symbols(length);
@@ -64,9 +66,10 @@ impl Builder {
     }
 
     fn mending(&mut self, m: u16) {
+        let series = self.series.number();
         let word = self.symbols(64);
         for (length, lengths) in [(64, [32, 64, 64]), (64, [1, 0, 72]), (8, [0, 0, 0])] {
-            let case = Case::of_mending(Q, m, &word[..length], lengths);
+            let case = Case::of_mending(Q, series, m, &word[..length], lengths);
             self.cases.push(case);
         }
     }
@@ -101,6 +104,7 @@ impl Builder {
     fn store(&mut self, m: u16, places: &[u8]) {
         let session = Session {
             q: Q,
+            series: self.series.number(),
             m,
             places: places.try_into().expect("64 places"),
             rounds: [(); PLACE_COUNT].map(|()| self.round()),
@@ -129,6 +133,7 @@ impl Builder {
             let case = Case {
                 op: b'y',
                 q: Q,
+                series: self.series.number(),
                 m,
                 place: self.generator.below(600) as u16,
                 a: 20,

@@ -4,7 +4,7 @@ use super::{right_lengths, Builder};
 use crate::case_record::SLICE_ROOM;
 use crate::checks::MISSING;
 use crate::curve::Curve;
-use crate::sample::{Shape, BAD_CURVES};
+use crate::sample::{self, Shape, BAD_CURVES};
 
 fn all_too_long(shape: Shape) -> [usize; 3] {
     right_lengths(shape).map(|length| length + 1)
@@ -108,7 +108,7 @@ impl Builder {
     }
 
     pub(super) fn bad_orders(&mut self) {
-        for curve in Curve::SHORT {
+        for curve in sample::short_curves(self.series) {
             let shape = Shape::of(curve, 3);
             let n = shape.n as u16;
             for order in [n, n + 1, 255] {
@@ -122,7 +122,7 @@ impl Builder {
     pub(super) fn bad_curves(&mut self) {
         for q in BAD_CURVES {
             for m in [37, 58, 255] {
-                let shape = Shape::of(Curve::Q_IS_4, 37);
+                let shape = Shape::of(Curve::Q_IS_4.in_series(self.series), 37);
                 let codeword = self.codeword(shape);
                 self.call(q, m, &codeword, right_lengths(shape));
                 self.later_faults(q, m, shape);

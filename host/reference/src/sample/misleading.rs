@@ -93,10 +93,12 @@ fn quotient_by(generator: &mut Generator, shape: Shape, radius: usize, f: &[u8])
     word
 }
 
-fn columns_with_zeros(shape: Shape, f: &[u8]) -> Vec<usize> {
-    let columns = f.chunks(usize::from(shape.q())).enumerate();
+/// The x of each.
+fn columns_with_zeros(shape: Shape, f: &[u8]) -> Vec<u8> {
+    let columns = shape.curve.columns().into_iter();
+    let columns = columns.zip(f.chunks(usize::from(shape.q())));
     let with_zeros = columns.filter(|(_, values)| values.contains(&0));
-    with_zeros.map(|(column, _)| column).collect()
+    with_zeros.map(|(x, _)| x).collect()
 }
 
 fn zero_count(f: &[u8]) -> usize {
@@ -163,13 +165,14 @@ fn with_many_zeros(generator: &mut Generator, shape: Shape, radius: usize) -> Ve
 mod tests {
     use super::*;
     use crate::code;
+    use crate::curve::Series;
     use crate::outcome::Outcome;
 
     type MakeWord = fn(&mut Generator, Shape, usize) -> Vec<u8>;
 
     fn is_codeword(shape: Shape, word: &[u8]) -> bool {
-        let mut message = vec![0; shape.k];
-        code::unencode(shape.q(), shape.m, word, &mut message) == Outcome::ACCEPTED
+        let (q, series, m) = shape.numbers();
+        code::unencode(q, series, m, word, &mut vec![0; shape.k]) == Outcome::ACCEPTED
     }
 
     /// Whether f isn't 0, is of order s, and its product with the word is a word
@@ -192,7 +195,7 @@ mod tests {
         let kinds: [MakeWord; 3] = [with_few_zeros, without_zeros, |_, shape, _| {
             vec![1; shape.n]
         }];
-        for (shape, radius) in Shape::every_mended() {
+        for (shape, radius) in Series::BOTH.into_iter().flat_map(Shape::every_mended_in) {
             for kind in kinds {
                 let f = kind(&mut generator, shape, radius);
                 let word = quotient_by(&mut generator, shape, radius, &f);
@@ -206,7 +209,7 @@ mod tests {
     #[test]
     fn a_polynomial_with_more_than_t_zeros_leads() {
         let mut generator = Generator::with_seed(62);
-        for (shape, radius) in Shape::every_mended() {
+        for (shape, radius) in Series::BOTH.into_iter().flat_map(Shape::every_mended_in) {
             let f = with_many_zeros(&mut generator, shape, radius);
             let s = usize::from(order_of_f(shape, radius));
             let zeros = if radius == 0 { 0..=0 } else { radius + 1..=s };

@@ -10,7 +10,8 @@ use crate::systematic;
 pub fn fix_the_codeword(shape: Shape, places: &[u16]) -> bool {
     let mut word = vec![0; shape.n];
     let zeros = vec![0; shape.k];
-    systematic::encode_at(shape.q(), shape.m, places, &zeros, &mut word) == Outcome::ACCEPTED
+    let (q, series, m) = shape.numbers();
+    systematic::encode_at(q, series, m, places, &zeros, &mut word) == Outcome::ACCEPTED
 }
 
 /// Any k places. Most such sets fix the codeword.
@@ -115,7 +116,7 @@ mod tests {
     #[test]
     fn all_kinds_are_k_places() {
         let mut generator = Generator::with_seed(71);
-        for shape in Shape::every_short() {
+        for shape in Shape::every_short_in_both_series() {
             let places = arbitrary(&mut generator, shape);
             assert!(are_k_places(shape, &places));
             let exchanged = with_one_exchanged(&mut generator, shape, &places);
@@ -137,7 +138,7 @@ mod tests {
     #[test]
     fn the_kinds_that_fix_the_codeword_do() {
         let mut generator = Generator::with_seed(72);
-        for shape in Shape::every_short() {
+        for shape in Shape::every_short_in_both_series() {
             for _ in 0..8 {
                 let staircase = staircase(&mut generator, shape);
                 assert!(fix_the_codeword(shape, &staircase));
@@ -150,7 +151,7 @@ mod tests {
     #[test]
     fn places_in_few_columns_leave_several() {
         let mut generator = Generator::with_seed(73);
-        for shape in Shape::every_short() {
+        for shape in Shape::every_short_in_both_series() {
             let are_enough = match shape.q() {
                 2 => [2, 4, 6].contains(&shape.m),
                 _ => shape.m >= 4,

@@ -4,12 +4,11 @@
 use super::Builder;
 use crate::case_record::Case;
 use crate::code::MISSING;
-use crate::curve::Curve;
 use crate::sample::{self, Shape};
 
 impl Builder {
     pub(super) fn highest_second_numbers(&mut self) {
-        for curve in Curve::SHORT {
+        for curve in sample::short_curves(self.series) {
             let n = curve.point_count();
             let highest = Shape::of(curve, n as u16 - 1);
             let highest_mended = Shape::of(curve, (n - 1 - curve.genus()) as u16);
@@ -51,7 +50,8 @@ impl Builder {
             let mut word = self.codeword(shape);
             word[shape.n - 1] = value;
             let lengths = [shape.k, shape.n, shape.n];
-            let case = Case::of_mending(shape.q(), shape.m, &word, lengths);
+            let (q, series, m) = shape.numbers();
+            let case = Case::of_mending(q, series, m, &word, lengths);
             self.cases.push(case);
         }
     }

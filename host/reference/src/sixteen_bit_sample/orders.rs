@@ -4,7 +4,7 @@
 use super::{Builder, MOST_ARRIVALS};
 use crate::case_record::{Case, SLICE_ROOM};
 use crate::code::MISSING;
-use crate::curve::Curve;
+use crate::curve::{Curve, Series};
 use crate::sample::{self, Shape, BAD_CURVES};
 use crate::session::PLACE_COUNT;
 
@@ -19,12 +19,12 @@ struct Refused {
 }
 
 impl Refused {
-    fn of(q: u8, m: u16) -> Refused {
+    fn of(q: u8, series: Series, m: u16) -> Refused {
         let curve = Curve::short_named(q).unwrap_or(Curve::Q_IS_4);
         let low_byte = m % 256;
         let is_order = usize::from(low_byte) < curve.point_count();
         let order = if is_order { low_byte } else { 3 };
-        let shape = Shape::of(curve, order);
+        let shape = Shape::of(curve.in_series(series), order);
         Refused { q, m, shape }
     }
 }
@@ -74,7 +74,7 @@ impl Builder {
         for curve in Curve::SHORT {
             let orders = sample::numbers_too_high(curve);
             for (number, &m) in orders.iter().rev().enumerate() {
-                let refused = Refused::of(curve.q(), m);
+                let refused = Refused::of(curve.q(), self.series, m);
                 self.good_but_for_the_order(refused);
                 if number % 2 == 0 {
                     self.with_further_faults(refused, number / 2);
@@ -87,7 +87,7 @@ impl Builder {
     pub(super) fn orders_of_unknown_curves(&mut self) {
         for (number, q) in BAD_CURVES.into_iter().enumerate() {
             for m in [255, 256, 256 + 37, u16::MAX] {
-                let refused = Refused::of(q, m);
+                let refused = Refused::of(q, self.series, m);
                 self.good_but_for_the_order(refused);
                 self.with_further_faults(refused, number);
             }
@@ -140,7 +140,8 @@ impl Builder {
         let word = sample::with_wrong(&mut self.generator, shape, &codeword, wrong);
         let word = fault.in_input(shape, &word);
         let lengths = [shape.k, shape.n, shape.n].map(|length| fault.in_length(length));
-        self.cases.push(Case::of_mending(q, m, &word, lengths));
+        let case = Case::of_mending(q, shape.series(), m, &word, lengths);
+        self.cases.push(case);
     }
 
     fn calls_of_session(&mut self, place: u16, symbol: u8, length: usize) {
@@ -157,6 +158,7 @@ impl Builder {
         let case = Case {
             op: b'y',
             q,
+            series: shape.series(),
             m,
             a: shape.n as u8 / 4,
             input: places,

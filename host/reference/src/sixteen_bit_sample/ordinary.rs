@@ -16,7 +16,7 @@ impl Builder {
         self.arrive(1, 2, 0);
         self.open_job(2, 3, &[1, 2, 2, 1, 3, 0, 1, 2]);
         self.carry_on(3, 3);
-        for shape in Shape::every_short() {
+        for shape in Shape::every_short_in(self.series) {
             self.whole_sessions(shape);
             self.turns(shape);
         }

@@ -3,7 +3,6 @@
 use super::{Builder, BUDGETS};
 use crate::case_record::{Case, SLICE_ROOM};
 use crate::code::MISSING;
-use crate::curve::Curve;
 use crate::replay::arrival_bytes;
 use crate::sample::{self, Shape};
 use crate::session::PLACE_COUNT;
@@ -23,14 +22,14 @@ fn index_of_low_byte(shape: Shape, place: u16) -> usize {
 
 impl Builder {
     pub(super) fn places_too_high(&mut self) {
-        let shapes = [Shape::of(Curve::Q_IS_2, 3), Shape::of(Curve::Q_IS_4, 37)];
-        for shape in shapes {
+        let [small, large] = sample::short_curves(self.series);
+        for shape in [Shape::of(small, 3), Shape::of(large, 37)] {
             self.at_an_opened_session(shape);
             self.at_a_session_with_symbols(shape);
             self.at_a_session_with_a_bad_value(shape);
         }
         // As many arrivals as are sure to be enough and one more fill the input.
-        for shape in [Shape::of(Curve::Q_IS_2, 3), Shape::of(Curve::Q_IS_4, 16)] {
+        for shape in [Shape::of(small, 3), Shape::of(large, 16)] {
             for place in sample::numbers_too_high(shape.curve) {
                 self.in_a_whole_session(shape, place);
             }
@@ -88,7 +87,7 @@ impl Builder {
     }
 
     pub(super) fn next_places_too_high(&mut self) {
-        for curve in Curve::SHORT {
+        for curve in sample::short_curves(self.series) {
             let n = curve.point_count() as u16;
             let next_places = [256, 256 + n - 1, 256 + n, 0xFF00, 0xFF00 + n, u16::MAX];
             for m in [3, n / 2, n - 1] {
@@ -106,6 +105,7 @@ impl Builder {
             let case = Case {
                 op: b'y',
                 q: shape.q(),
+                series: shape.series(),
                 m: shape.m,
                 place: next_place,
                 a: BUDGETS[self.generator.below(BUDGETS.len())],
@@ -124,6 +124,7 @@ impl Builder {
 mod tests {
     use super::*;
     use crate::case_record::Runner;
+    use crate::curve::Series;
     use crate::generator::Generator;
 
     fn line(case: &Case) -> String {
@@ -134,10 +135,12 @@ mod tests {
     #[test]
     fn a_look_at_the_low_byte_would_change_the_answer() {
         let mut builder = Builder {
+            series: Series::Two,
             generator: Generator::with_seed(82),
             cases: Vec::new(),
         };
-        for shape in [Shape::of(Curve::Q_IS_2, 3), Shape::of(Curve::Q_IS_4, 16)] {
+        let [small, large] = sample::short_curves(builder.series);
+        for shape in [Shape::of(small, 3), Shape::of(large, 16)] {
             for low_byte in 0..shape.n as u16 {
                 builder.in_a_whole_session(shape, 256 + low_byte);
                 let case = builder.cases.swap_remove(0);

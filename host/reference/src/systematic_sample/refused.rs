@@ -2,7 +2,7 @@
 
 use super::{Builder, Call};
 use crate::case_record::SLICE_ROOM;
-use crate::curve::Curve;
+use crate::curve::Series;
 use crate::sample::{self, places, Shape, BAD_CURVES};
 
 /// The first index, one in the middle and the last of a list.
@@ -215,8 +215,9 @@ impl Builder {
         }
     }
 
-    pub(super) fn bad_orders(&mut self) {
-        for shape in [Shape::of(Curve::Q_IS_2, 3), Shape::of(Curve::Q_IS_4, 37)] {
+    pub(super) fn bad_orders(&mut self, series: Series) {
+        let [small, large] = sample::short_curves(series);
+        for shape in [Shape::of(small, 3), Shape::of(large, 37)] {
             let n = shape.n as u16;
             let low_byte_is_good = [256 + shape.m, 0xFF00 + shape.m];
             let orders = [n, n + 1, 255, 256, u16::MAX].into_iter();
@@ -227,12 +228,13 @@ impl Builder {
     }
 
     /// At the orders 0, 3 and 37 a call with another number would be good.
-    pub(super) fn bad_curves(&mut self) {
+    pub(super) fn bad_curves(&mut self, series: Series) {
+        let [small, large] = sample::short_curves(series);
         for q in BAD_CURVES {
             for m in [0, 37] {
-                self.later_faults(Shape::of(Curve::Q_IS_4, m), q, m);
+                self.later_faults(Shape::of(large, m), q, m);
             }
-            let mut call = self.good_call(Shape::of(Curve::Q_IS_2, 3));
+            let mut call = self.good_call(Shape::of(small, 3));
             call.q = q;
             for m in [3, 255, 256, u16::MAX] {
                 call.m = m;

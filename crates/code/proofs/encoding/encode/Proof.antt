@@ -9,7 +9,7 @@ use lib.ListN.{length}
 use Rattle.field.specs.Curve.{IsCurve, IsShort}
 use Rattle.field.specs.declared.outcome.Outcome.the-variants.{Done}
 use Rattle.field.proofs.Curves.{curve-of-true}
-use Rattle.points.specs.Points.{columnsOf}
+use Rattle.points.specs.Series.{columnsOf}
 use Rattle.code.specs.Terms.{size}
 use Rattle.code.specs.Word.{wordOf}
 use Rattle.code.specs.Answers.{answered}
@@ -25,30 +25,30 @@ use Rattle.code.proofs.encoding.encode.Tie as tie
 
 -- what was checked are the checks of the call
 checked : (c : tie.After-call) → let x = c .before .before .before .before .args in
-    c .call .result ≡ encodeChecks (x .q) (x .m) (now (x .message)) (now (x .word))
+    c .call .result ≡ encodeChecks (x .q) (x .series) (x .m) (now (x .message)) (now (x .word))
 checked c =
     let x = c .before .before .before .before .args in
     c .call .ensures
-    ∙ ap (λ (taken : Bool). callChecks taken false false (x .q) (x .m) (now (x .message)) (length (now (x .word))) Done) (c .before .is-curve .ensures)
+    ∙ ap (λ (taken : Bool). callChecks taken false false (x .q) (x .series) (x .m) (now (x .message)) (length (now (x .word))) Done) (c .before .is-curve .ensures)
 
 -- past them
 done : (c : tie.After-enum-told) → let x = c .before .before .before .before .before .before .args in
-    encodeChecks (x .q) (x .m) (now (x .message)) (now (x .word)) ≡ Done
+    encodeChecks (x .q) (x .series) (x .m) (now (x .message)) (now (x .word)) ≡ Done
 done c = sym (checked (c .before .before)) ∙ c .enum-told .given .1
 
 passed : (c : tie.After-enum-told) → let x = c .before .before .before .before .before .before .args in
     IsCurve (x .q) × (x .m < x .q * x .q * x .q) × Accepted false (x .q * x .q) (size (x .q) (x .m)) (now (x .message)) (x .q * x .q * x .q) (length (now (x .word)))
 passed c =
     let x = c .before .before .before .before .before .before .args in
-    let p = call-done _ false false (x .q) (x .m) (now (x .message)) (length (now (x .word))) (done c) in
+    let p = call-done _ false false (x .q) (x .series) (x .m) (now (x .message)) (length (now (x .word))) (done c) in
     (curve-of-true (x .q) (p .0), p .1, p .2)
 
 ready : (c : tie.After-enum-told) → let x = c .before .before .before .before .before .before .args in
-    Encodable (x .q) (columnsOf (x .q)) (x .m) (now (x .message)) (now (x .word))
+    Encodable (x .q) (columnsOf (x .q) (x .series)) (x .m) (now (x .message)) (now (x .word))
 ready c =
     let x = c .before .before .before .before .before .before .args in
     let p = passed c in
-    encodable (x .q) (x .m) (now (x .message)) (now (x .word)) (p .0) (p .1) (p .2)
+    encodable (x .q) (x .series) (x .m) (now (x .message)) (now (x .word)) (p .0) (p .1) (p .2)
 
 short : (c : tie.Else1) → IsShort (c .before .before .before .before .before .before .before .args .q)
 short c = not-long-short (c .before .before .before .before .before .before .before .args .q) (passed (c .before) .0) (c .if1 .left)
@@ -70,7 +70,7 @@ run-requires : tie.Need-run-requires
 run-requires c κs =
     let x = c .before .before .before .before .before .before .before .before .args in (
       λ e. absurd (false≢true e),
-      λ e. subst (λ (q : ℕ). Encodable q (columnsOf q) (x .m) (now (x .message)) (now (x .word))) (c .before .if1 .taken) (ready (c .before .before)),
+      λ e. subst (λ (q : ℕ). Encodable q (columnsOf q (x .series)) (x .m) (now (x .message)) (now (x .word))) (c .before .if1 .taken) (ready (c .before .before)),
     )
 
 same-length : tie.Need-same-length
@@ -80,7 +80,7 @@ returns-2 : tie.Need-returns-2
 unfolding encoded
 returns-2 c =
     let x = c .before .before .before .before .before .before .before .before .before .before .before .args in
-    let e = ap (λ (q : ℕ). wordOf q (columnsOf q) (x .m) (now (x .message))) (c .before .before .before .before .if1 .taken) in
+    let e = ap (λ (q : ℕ). wordOf q (columnsOf q (x .series)) (x .m) (now (x .message))) (c .before .before .before .before .if1 .taken) in
     not-refused _ (now (x .word)) _ (done (c .before .before .before .before .before)) ∙ ap (answered Done) e ∙ c .before .before .run .ensures
 
 write-word-requires : tie.Need-write-word-requires

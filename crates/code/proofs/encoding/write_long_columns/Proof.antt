@@ -12,25 +12,25 @@ use Rattle.field.proofs.Curves.{long-curve}
 use Rattle.poly.specs.inner.Ranges.{Blocks}
 use Rattle.poly.proofs.Blocks.{blocks-none}
 use Rattle.poly.proofs.Parts.{length-part}
-use Rattle.points.proofs.ColumnPoints.{length-upTo}
+use Rattle.points.proofs.Series.{length-columns}
 use Rattle.code.specs.inner.Encodable.{gridColumn}
 use Rattle.code.proofs.Stages.{group-staged, group-turn}
 use Rattle.code.proofs.encoding.write_long_columns.Statement.{statement}
 use Rattle.code.proofs.encoding.write_long_columns.Tie as tie
 
 abbrev Inv-loop : tie.InvT-loop
-Inv-loop n grid word₀ all columns from₀ word from =
+Inv-loop series n grid word₀ all columns from₀ word from =
     (from ≤ 64) × (from % 16 ≡ 0) × (length word ≡ length word₀) × Blocks 8 (gridColumn 8 columns n grid) word from
 
 abbrev μ-loop : tie.MeasureT-loop
-μ-loop n grid word₀ all columns from₀ word from = 64 - from
+μ-loop series n grid word₀ all columns from₀ word from = 64 - from
 
 -- there are sixteen columns left
 fits : (c : tie.In-loop Inv-loop μ-loop) → c .before .loop .from + 16 ≤ 64
 fits c = let l = c .before .loop in omega (arith, l .inv .1, c .loop-test .taken)
 
 columns-long : (c : tie.In-loop Inv-loop μ-loop) → length (c .before .before .long-columns .result) ≡ 64
-columns-long c = ap length (c .before .before .long-columns .ensures) ∙ length-upTo 64
+columns-long c = ap length (c .before .before .long-columns .ensures) ∙ length-columns 8 (c .before .before .before .before .before .before .args .series) long-curve
 
 -- and their places are within the word
 room : (c : tie.In-loop Inv-loop μ-loop) → 8 * (c .before .loop .from + 16) ≤ length (c .before .loop .word)
@@ -85,7 +85,7 @@ write-columns-requires c κs =
     let columns = c .before .before .before .before .before .before .long-columns in
     let k = length-part (columns .result) (l .from) (l .from + 16) (omega arith) (omega (arith, fits d, columns-long d)) in (
       (
-        group-staged 8 long-curve (columns .result) (now (s .args .grid)) (l .from) (l .from + 16) (columns .ensures) (omega arith) (fits d) (omega arith)
+        group-staged 8 (s .args .series) long-curve (columns .result) (now (s .args .grid)) (l .from) (l .from + 16) (columns .ensures) (omega arith) (fits d) (omega arith)
             (s .pre .0),
         s .pre .1,
         s .pre .2,

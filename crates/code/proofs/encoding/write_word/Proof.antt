@@ -11,7 +11,7 @@ use Rattle.field.proofs.Fields.{fieldOf}
 use Rattle.field.proofs.FieldLaws.{zero-lt}
 use Rattle.field.proofs.Curves.{short-sizes}
 use Rattle.poly.proofs.Entries.{below-zeros}
-use Rattle.points.specs.Points.{columnsOf}
+use Rattle.points.specs.Series.{columnsOf}
 use Rattle.points.proofs.AllColumns.{columns-are, columns-fit, columns-long}
 use Rattle.code.specs.Word.{wordOf}
 use Rattle.code.specs.inner.Grid.{scatter}
@@ -21,8 +21,8 @@ use Rattle.code.proofs.encoding.write_word.Statement.{statement}
 use Rattle.code.proofs.encoding.write_word.Tie as tie
 
 -- the columns that are lent
-lent : (c : tie.After-columns) → let q = c .before .before .before .args .q in take (q * q) (c .columns .result) ≡ columnsOf q
-lent c = let s = c .before .before .before in columns-are (s .args .q) (s .pre .1) (s .args .q * s .args .q) _ refl (c .columns .ensures)
+lent : (c : tie.After-columns) → let x = c .before .before .before .args in take (x .q * x .q) (c .columns .result) ≡ columnsOf (x .q) (x .series)
+lent c = let s = c .before .before .before in columns-are (s .args .q) (s .args .series) (s .pre .1) (s .args .q * s .args .q) _ refl (c .columns .ensures)
 
 -- the message, over these columns
 ready : (c : tie.After-columns) → let x = c .before .before .before .args in
@@ -39,12 +39,12 @@ mul-c : tie.Need-mul-c
 mul-c c = let s = c .before .before .before in omega (arith, short-sizes (s .args .q) (s .pre .1) .symbols)
 
 array-share-prefix-columns : tie.Need-array-share-prefix-columns
-array-share-prefix-columns c = let s = c .before .before .before in columns-fit (s .args .q) (s .pre .1) _ _ refl (c .columns .ensures)
+array-share-prefix-columns c = let s = c .before .before .before in columns-fit (s .args .q) (s .args .series) (s .pre .1) _ _ refl (c .columns .ensures)
 
 slice-aggregate-evaluate-message : tie.Need-slice-aggregate-evaluate-message
 slice-aggregate-evaluate-message c =
     let s = c .before .before .before .before in
-    columns-long (s .args .q) (s .pre .1) _ _ refl (c .before .columns .ensures)
+    columns-long (s .args .q) (s .args .series) (s .pre .1) _ _ refl (c .before .columns .ensures)
 
 slice-aggregate-evaluate-message-2 : tie.Need-slice-aggregate-evaluate-message-2
 slice-aggregate-evaluate-message-2 c = search needs
@@ -60,12 +60,12 @@ evaluate-message-requires c κs =
     )
 
 array-share-prefix-columns-2 : tie.Need-array-share-prefix-columns-2
-array-share-prefix-columns-2 c = let s = c .before .before .before .before .before .before .before in columns-fit (s .args .q) (s .pre .1) _ _ refl (c .before .before .before .before .columns .ensures)
+array-share-prefix-columns-2 c = let s = c .before .before .before .before .before .before .before in columns-fit (s .args .q) (s .args .series) (s .pre .1) _ _ refl (c .before .before .before .before .columns .ensures)
 
 slice-aggregate-evaluate-short-columns : tie.Need-slice-aggregate-evaluate-short-columns
 slice-aggregate-evaluate-short-columns c =
     let s = c .before .before .before .before .before .before .before .before in
-    columns-long (s .args .q) (s .pre .1) _ _ refl (c .before .before .before .before .before .columns .ensures)
+    columns-long (s .args .q) (s .args .series) (s .pre .1) _ _ refl (c .before .before .before .before .before .columns .ensures)
 
 slice-aggregate-evaluate-short-columns-2 : tie.Need-slice-aggregate-evaluate-short-columns-2
 slice-aggregate-evaluate-short-columns-2 c = search needs

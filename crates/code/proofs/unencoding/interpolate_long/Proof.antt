@@ -11,7 +11,7 @@ use Rattle.field.proofs.Curves.{long-curve}
 use Rattle.field.proofs.Fields.{fieldOf}
 use Rattle.poly.specs.inner.Interpolation.{VanishingTree}
 use Rattle.poly.proofs.Entries.{getD-zeros}
-use Rattle.points.proofs.ColumnPoints.{length-upTo}
+use Rattle.points.proofs.Series.{length-columns}
 use Rattle.code.specs.inner.Readable.{WordOver, GridInFront}
 use Rattle.code.proofs.Stages.{short-narrow}
 use Rattle.code.proofs.WordGrids.{joinable, grid-of, grid-copied}
@@ -23,7 +23,7 @@ over : (c : tie.After-long-columns) → WordOver 8 (c .long-columns .result) (no
 over c = subst (λ (l : List ℕ). WordOver 8 l (now (c .before .before .args .word))) (sym (c .long-columns .ensures)) (c .before .before .pre)
 
 many : (c : tie.After-long-columns) → length (c .long-columns .result) ≡ 64
-many c = ap length (c .long-columns .ensures) ∙ length-upTo 64
+many c = ap length (c .long-columns .ensures) ∙ length-columns 8 (c .before .before .args .series) long-curve
 
 long-columns-requires : tie.Need-long-columns-requires
 long-columns-requires c κs = search needs

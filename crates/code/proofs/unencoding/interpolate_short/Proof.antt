@@ -9,34 +9,39 @@ use borrow.Author.Needs.{needs}
 use denote.Ref.{now}
 use lib.ListN.{length, take, drop, length-replicate}
 use lib.Seq.{length-front}
-use Rattle.field.proofs.Curves.{sizes, short-sizes}
+use Rattle.field.proofs.Curves.{sizes, short-curve, short-sizes}
 use Rattle.field.proofs.Fields.{fieldOf}
 use Rattle.poly.specs.inner.Interpolation.{VanishingTree, Joinable, Interpolated}
 use Rattle.poly.proofs.Entries.{zeros, getD-zeros, take-zeros}
 use Rattle.poly.proofs.Fronts.{lent-long, front-fits, front-again, again-long, part-is, part-fits}
-use Rattle.points.specs.Points.{columnsOf}
+use Rattle.points.specs.Series.{columnsOf}
 use Rattle.points.proofs.AllColumns.{columns-are, columns-fit}
-use Rattle.points.proofs.ColumnPoints.{length-upTo}
+use Rattle.points.proofs.Series.{first-columns, second-columns, small-columns, length-columns}
 use Rattle.code.specs.inner.Readable.{WordOver, GridOf, GridInFront}
 use Rattle.code.proofs.Stages.{columns-short, short-narrow}
 use Rattle.code.proofs.WordGrids.{word-fits, joinable, grid-of, grid-copied}
 use Rattle.code.proofs.unencoding.interpolate_short.Statement.{statement}
 use Rattle.code.proofs.unencoding.interpolate_short.Tie as tie
 
--- the tree is that of the curve
-grown : (c : tie.Joined1) → let q = c .before .before .before .args .q in VanishingTree (fieldOf q) (columnsOf q) (c .if1 .tree) × (length (c .if1 .tree) ≡ 160)
+-- the tree is that of the curve and the series
+grown : (c : tie.Joined1) → let x = c .before .before .before .args in VanishingTree (fieldOf (x .q)) (columnsOf (x .q) (x .series)) (c .if1 .tree) × (length (c .if1 .tree) ≡ 160)
 grown c =
-    ⊎-elim
-    (λ w. rw (w .2) (rw (w .0 .taken) (w .1 .ensures)))
-    (λ w. rw (w .1) (⊎-elim (λ e. absurd (w .0 .left e)) (λ e. rw e (c .before .tree-4 .ensures)) (c .before .before .before .pre .1)))
+    let s = c .before .before .before in
+    let larger : (s .args .q ≡ 2 → ⊥) → s .args .q ≡ 4 = λ n. ⊎-elim (λ e. absurd (n e)) (λ e. e) (s .pre .1) in
+    ⊎-elim (λ w. rw (w .2) (rw (w .0 .taken, small-columns (s .args .series)) (w .1 .ensures)))
+    (⊎-elim
+    (λ w. rw (w .3) (rw (larger (w .0 .left), second-columns 4 (s .args .series) (w .1 .taken)) (w .2 .ensures)))
+    (λ w. rw (w .2) (rw (larger (w .0 .left), first-columns 4 (s .args .series) (w .1 .left)) (c .before .tree-4 .ensures))))
     (c .if1 .came)
 
 -- the columns that are lent
-lent : (c : tie.After-columns) → let q = c .before .before .before .before .args .q in take (q * q) (c .columns .result) ≡ columnsOf q
-lent c = let s = c .before .before .before .before in columns-are (s .args .q) (s .pre .1) (s .args .q * s .args .q) _ refl (c .columns .ensures)
+lent : (c : tie.After-columns) → let x = c .before .before .before .before .args in take (x .q * x .q) (c .columns .result) ≡ columnsOf (x .q) (x .series)
+lent c = let s = c .before .before .before .before in columns-are (s .args .q) (s .args .series) (s .pre .1) (s .args .q * s .args .q) _ refl (c .columns .ensures)
 
 many : (c : tie.After-columns) → let q = c .before .before .before .before .args .q in length (take (q * q) (c .columns .result)) ≡ q * q
-many c = let q = c .before .before .before .before .args .q in ap length (lent c) ∙ length-upTo (q * q)
+many c =
+    let s = c .before .before .before .before in
+    ap length (lent c) ∙ length-columns (s .args .q) (s .args .series) (short-curve _ (s .pre .1))
 
 over : (c : tie.After-columns) → let x = c .before .before .before .before .args in WordOver (x .q) (take (x .q * x .q) (c .columns .result)) (now (x .word))
 over c =
@@ -64,6 +69,9 @@ tree-4-requires c κs = search needs
 tree-2-requires : tie.Need-tree-2-requires
 tree-2-requires c κs = search needs
 
+tree-4-by-powers-requires : tie.Need-tree-4-by-powers-requires
+tree-4-by-powers-requires c κs = search needs
+
 columns-requires : tie.Need-columns-requires
 columns-requires c κs = search needs
 
@@ -74,7 +82,7 @@ mul-end : tie.Need-mul-end
 mul-end c = omega (arith, few c)
 
 array-share-prefix-columns : tie.Need-array-share-prefix-columns
-array-share-prefix-columns c = let s = c .before .before .before .before in columns-fit (s .args .q) (s .pre .1) _ _ refl (c .columns .ensures)
+array-share-prefix-columns c = let s = c .before .before .before .before in columns-fit (s .args .q) (s .args .series) (s .pre .1) _ _ refl (c .columns .ensures)
 
 slice-aggregate-interpolate-in-y : tie.Need-slice-aggregate-interpolate-in-y
 slice-aggregate-interpolate-in-y c = sym (many (c .before))
@@ -95,7 +103,7 @@ array-share-prefix-columns-2 : tie.Need-array-share-prefix-columns-2
 array-share-prefix-columns-2 c =
     let d = c .before .before .before .before in
     let s = d .before .before .before .before in
-    columns-fit (s .args .q) (s .pre .1) _ _ refl (d .columns .ensures)
+    columns-fit (s .args .q) (s .args .series) (s .pre .1) _ _ refl (d .columns .ensures)
 
 slice-aggregate-interpolate : tie.Need-slice-aggregate-interpolate
 slice-aggregate-interpolate c = sym (many (c .before .before .before .before .before))
@@ -180,6 +188,7 @@ interpolate-short-spec =
     (tie.spec
     tree-4-requires
     tree-2-requires
+    tree-4-by-powers-requires
     columns-requires
     mul-c
     mul-end

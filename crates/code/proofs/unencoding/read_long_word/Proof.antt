@@ -3,8 +3,8 @@ use mathlib.Core.Path.{sym, _∙_}
 use borrow.Author.Needs.{needs}
 use denote.Ref.{now}
 use Rattle.field.proofs.Curves.{long-curve}
-use Rattle.points.specs.Points.{columnsOf}
-use Rattle.points.proofs.ColumnPoints.{full-places}
+use Rattle.points.specs.Series.{columnsOf}
+use Rattle.points.proofs.Series.{full-places}
 use Rattle.code.proofs.WordGrids.{whole-grid, read-answer}
 use Rattle.code.proofs.unencoding.read_long_word.Statement.{statement}
 use Rattle.code.proofs.unencoding.read_long_word.Tie as tie
@@ -27,8 +27,8 @@ returns c =
     let s = d .before .before .before in
     let a = s .args in
     let r = d .interpolate-long in
-    read-answer 8 (columnsOf 8) (now (a .word)) (s .pre .whole) (a .m) (s .pre .order) (r .result)
-    (whole-grid 8 (columnsOf 8) (now (a .word)) (s .pre .whole) (r .result) (r .ensures .0) (r .ensures .1 ∙ sym (full-places 8 long-curve)))
+    read-answer 8 (columnsOf 8 (a .series)) (now (a .word)) (s .pre .whole) (a .m) (s .pre .order) (r .result)
+    (whole-grid 8 (columnsOf 8 (a .series)) (now (a .word)) (s .pre .whole) (r .result) (r .ensures .0) (r .ensures .1 ∙ sym (full-places 8 (a .series) long-curve)))
     (now (a .message))
     ∙ c .before .before .read-grid .ensures
 

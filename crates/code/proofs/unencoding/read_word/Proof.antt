@@ -6,7 +6,7 @@ use borrow.Author.Needs.{needs}
 use denote.Ref.{now}
 use lib.ListN.{length, take}
 use lib.Seq.{length-take-le}
-use Rattle.points.specs.Points.{columnsOf}
+use Rattle.points.specs.Series.{columnsOf}
 use Rattle.code.proofs.Stages.{columns-short}
 use Rattle.code.proofs.WordGrids.{front-grid, read-answer}
 use Rattle.code.proofs.unencoding.read_word.Statement.{statement}
@@ -16,7 +16,7 @@ use Rattle.code.proofs.unencoding.read_word.Tie as tie
 few : (s : tie.Start) → length (now (s .args .word)) ≤ 64
 few s =
     let h = s .pre .0 .whole in
-    omega (arith, h .long, columns-short (s .args .q) (columnsOf (s .args .q)) (h .over) (s .pre .1) (h .few))
+    omega (arith, h .long, columns-short (s .args .q) (columnsOf (s .args .q) (s .args .series)) (h .over) (s .pre .1) (h .few))
 
 -- what is lent of the grid
 room : (c : tie.After-interpolate-short) → length (now (c .before .before .before .args .word)) ≤ length (c .interpolate-short .result)
@@ -49,8 +49,8 @@ returns c =
     let a = s .args in
     let n = length (now (a .word)) in
     let r = d .interpolate-short in
-    read-answer (a .q) (columnsOf (a .q)) (now (a .word)) (s .pre .0 .whole) (a .m) (s .pre .0 .order) (take n (r .result))
-    (front-grid (a .q) (columnsOf (a .q)) (now (a .word)) (s .pre .0 .whole) (r .result) (r .ensures .0) (room d)) (now (a .message))
+    read-answer (a .q) (columnsOf (a .q) (a .series)) (now (a .word)) (s .pre .0 .whole) (a .m) (s .pre .0 .order) (take n (r .result))
+    (front-grid (a .q) (columnsOf (a .q) (a .series)) (now (a .word)) (s .pre .0 .whole) (r .result) (r .ensures .0) (room d)) (now (a .message))
     ∙ c .before .before .read-grid .ensures
 
 pub read-word-spec : {M : Type 1} → statement M

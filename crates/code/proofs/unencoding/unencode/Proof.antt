@@ -9,7 +9,7 @@ use lib.ListN.{length}
 use Rattle.field.specs.Curve.{IsCurve, IsShort}
 use Rattle.field.specs.declared.outcome.Outcome.the-variants.{Done}
 use Rattle.field.proofs.Curves.{curve-of-true}
-use Rattle.points.specs.Points.{columnsOf}
+use Rattle.points.specs.Series.{columnsOf}
 use Rattle.code.specs.Terms.{size}
 use Rattle.code.specs.Checks.{callChecks}
 use Rattle.code.specs.inner.Readable.{Readable, readOver}
@@ -23,30 +23,30 @@ use Rattle.code.proofs.unencoding.unencode.Tie as tie
 
 -- what was checked are the checks of the call
 checked : (c : tie.After-call) → let x = c .before .before .before .before .args in
-    c .call .result ≡ unencodeChecks (x .q) (x .m) (now (x .word)) (now (x .message))
+    c .call .result ≡ unencodeChecks (x .q) (x .series) (x .m) (now (x .word)) (now (x .message))
 checked c =
     let x = c .before .before .before .before .args in
     c .call .ensures
-    ∙ ap (λ (taken : Bool). callChecks taken false true (x .q) (x .m) (now (x .word)) (length (now (x .message))) Done) (c .before .is-curve .ensures)
+    ∙ ap (λ (taken : Bool). callChecks taken false true (x .q) (x .series) (x .m) (now (x .word)) (length (now (x .message))) Done) (c .before .is-curve .ensures)
 
 -- past them
 done : (c : tie.After-enum-told) → let x = c .before .before .before .before .before .before .args in
-    unencodeChecks (x .q) (x .m) (now (x .word)) (now (x .message)) ≡ Done
+    unencodeChecks (x .q) (x .series) (x .m) (now (x .word)) (now (x .message)) ≡ Done
 done c = sym (checked (c .before .before)) ∙ c .enum-told .given .1
 
 passed : (c : tie.After-enum-told) → let x = c .before .before .before .before .before .before .args in
     IsCurve (x .q) × (x .m < x .q * x .q * x .q) × Accepted false (x .q * x .q) (x .q * x .q * x .q) (now (x .word)) (size (x .q) (x .m)) (length (now (x .message)))
 passed c =
     let x = c .before .before .before .before .before .before .args in
-    let p = call-done _ false true (x .q) (x .m) (now (x .word)) (length (now (x .message))) (done c) in
+    let p = call-done _ false true (x .q) (x .series) (x .m) (now (x .word)) (length (now (x .message))) (done c) in
     (curve-of-true (x .q) (p .0), p .1, p .2)
 
 ready : (c : tie.After-enum-told) → let x = c .before .before .before .before .before .before .args in
-    Readable (x .q) (columnsOf (x .q)) (x .m) (now (x .word)) (now (x .message))
+    Readable (x .q) (columnsOf (x .q) (x .series)) (x .m) (now (x .word)) (now (x .message))
 ready c =
     let x = c .before .before .before .before .before .before .args in
     let p = passed c in
-    readable (x .q) (x .m) (now (x .word)) (now (x .message)) (p .0) (p .1) (p .2)
+    readable (x .q) (x .series) (x .m) (now (x .word)) (now (x .message)) (p .0) (p .1) (p .2)
 
 short : (c : tie.Else1) → IsShort (c .before .before .before .before .before .before .before .args .q)
 short c = not-long-short (c .before .before .before .before .before .before .before .args .q) (passed (c .before) .0) (c .if1 .left)
@@ -67,7 +67,7 @@ returns c = let x = c .before .before .before .before .before .args in entry-ref
 run-requires : tie.Need-run-requires
 run-requires c κs =
     let x = c .before .before .before .before .before .before .before .before .args in (
-      λ e. subst (λ (q : ℕ). Readable q (columnsOf q) (x .m) (now (x .word)) (now (x .message))) (c .before .if1 .taken) (ready (c .before .before)),
+      λ e. subst (λ (q : ℕ). Readable q (columnsOf q (x .series)) (x .m) (now (x .word)) (now (x .message))) (c .before .if1 .taken) (ready (c .before .before)),
       λ e. absurd (false≢true (sym e)),
     )
 
@@ -78,7 +78,7 @@ returns-2 : tie.Need-returns-2
 unfolding unencoded
 returns-2 c =
     let x = c .before .before .before .before .before .before .before .before .before .before .before .args in
-    let e = ap (λ (q : ℕ). readOver q (columnsOf q) (x .m) (now (x .word)) (now (x .message))) (c .before .before .before .before .if1 .taken) in
+    let e = ap (λ (q : ℕ). readOver q (columnsOf q (x .series)) (x .m) (now (x .word)) (now (x .message))) (c .before .before .before .before .if1 .taken) in
     not-refused _ (now (x .message)) _ (done (c .before .before .before .before .before)) ∙ e ∙ c .before .before .run .ensures
 
 read-word-requires : tie.Need-read-word-requires

@@ -34,7 +34,7 @@ whole-long c = search needs
 
 -- the job passed the test
 passed : (c : tie.Then1) → let j = c .before .before .before .before .before .before .before .before .before .before .args .t1 in
-    Tested (j .q) (j .m) (j .places) (j .next) (j .work) (j .candidate) (j .complete) (j .clash)
+    Tested (j .q) (j .series) (j .m) (j .places) (j .next) (j .work) (j .candidate) (j .complete) (j .clash)
 passed c = c .before .usable .ensures .0 (c .if1 .taken)
 
 -- what is known of it once k and n are
@@ -68,13 +68,13 @@ module _ (c : tie.After-bring) where
   at = c .before .before .before .before .before
 
   abbrev work : List ℕ
-  work = c .bring .last .1 .1 .1 .1 .1 .1 .1 .1 .0
+  work = c .bring .last .1 .1 .1 .1 .1 .1 .1 .1 .1 .0
 
   abbrev candidate : List ℕ
-  candidate = c .bring .last .1 .1 .1 .1 .1 .1 .1 .1 .1 .0
+  candidate = c .bring .last .1 .1 .1 .1 .1 .1 .1 .1 .1 .1 .0
 
   abbrev whole : List ℕ
-  whole = c .bring .last .1 .1 .1 .1 .1 .1 .1 .1 .1 .1 .0
+  whole = c .bring .last .1 .1 .1 .1 .1 .1 .1 .1 .1 .1 .1 .0
 
   abbrev budget : ℕ
   budget = start at .args .budget
@@ -82,8 +82,8 @@ module _ (c : tie.After-bring) where
   left : Left (job at) (k at) (n at) budget work candidate whole (c .bring .result)
   left =
       record {
-        candidate-kept = c .bring .kept .1 .1 .1 .1 .1 .1 .1 .1 .1 .0;
-        whole-kept = c .bring .kept .1 .1 .1 .1 .1 .1 .1 .1 .1 .1 .0;
+        candidate-kept = c .bring .kept .1 .1 .1 .1 .1 .1 .1 .1 .1 .1 .0;
+        whole-kept = c .bring .kept .1 .1 .1 .1 .1 .1 .1 .1 .1 .1 .1 .0;
         brings = c .bring .ensures;
       }
 
@@ -103,11 +103,11 @@ usable-requires : tie.Need-usable-requires
 usable-requires c κs = search needs
 
 size-requires : tie.Need-size-requires
-size-requires c κs = open-curve _ _ (storedWord (c .before .before .before .before .before .before .before .before .before .before .args .t1))
+size-requires c κs = open-curve _ _ _ (storedWord (c .before .before .before .before .before .before .before .before .before .before .args .t1))
     (passed c .passes)
 
 at-requires : tie.Need-at-requires
-at-requires c κs = open-curve _ _ (storedWord
+at-requires c κs = open-curve _ _ _ (storedWord
     (c .before .before .before .before .before .before .before .before .before .before .before .before .args .t1)) (passed
     (c .before .before) .passes)
 

@@ -11,8 +11,8 @@ use Rattle.field.proofs.Fields.{fieldOf}
 use Rattle.poly.specs.inner.Linear.{entry}
 use Rattle.linear.specs.inner.Systems.{flat, rank}
 use Rattle.linear.proofs.Solutions.{rank-le, rank-full, solves-vector}
-use Rattle.points.specs.Points.{columnsOf}
-use Rattle.points.proofs.ColumnPoints.{full-places}
+use Rattle.points.specs.Series.{columnsOf}
+use Rattle.points.proofs.Series.{full-places}
 use Rattle.code.specs.Terms.{size}
 use Rattle.code.proofs.FullColumns.{size-short}
 use Rattle.job.specs.inner.Bringing.{Collects, Compared}
@@ -24,14 +24,14 @@ use Rattle.job.proofs.bringing.bring.Tie as tie
 -- how collecting ended, by whether the symbols clashed
 collects : (c : tie.After-collect) (b : Bool) → c .collect .result .clash ≡ b
     → let x = c .before .before .before .before .before .before .before .args in
-    Collects (x .q) (columnsOf (x .q)) (x .m) (now (x .word)) (x .budget) (now (x .work)) (x .next)
-    (rank (size (x .q) (x .m)) (flat 64 (size (x .q) (x .m)) (now (x .work)))) (c .collect .last .1 .1 .1 .1 .1 .1 .0)
+    Collects (x .q) (columnsOf (x .q) (x .series)) (x .m) (now (x .word)) (x .budget) (now (x .work)) (x .next)
+    (rank (size (x .q) (x .m)) (flat 64 (size (x .q) (x .m)) (now (x .work)))) (c .collect .last .1 .1 .1 .1 .1 .1 .1 .0)
     (c .collect .result .next) (c .collect .result .rank) (c .collect .result .brought) b
 collects c b e =
     let x = c .before .before .before .before .before .before .before .args in
     let r = c .collect in
-    subst (λ (t : Bool). Collects (x .q) (columnsOf (x .q)) (x .m) (now (x .word)) (x .budget) (now (x .work)) (x .next)
-    (rank (size (x .q) (x .m)) (flat 64 (size (x .q) (x .m)) (now (x .work)))) (r .last .1 .1 .1 .1 .1 .1 .0)
+    subst (λ (t : Bool). Collects (x .q) (columnsOf (x .q) (x .series)) (x .m) (now (x .word)) (x .budget) (now (x .work)) (x .next)
+    (rank (size (x .q) (x .m)) (flat 64 (size (x .q) (x .m)) (now (x .work)))) (r .last .1 .1 .1 .1 .1 .1 .1 .0)
     (r .result .next) (r .result .rank) (r .result .brought) t) e (r .ensures .1)
 
 -- where the rows are complete, there are k
@@ -47,7 +47,7 @@ full c e l =
       arith,
       s .pre .0 .3,
       h .ranked,
-      rank-le (fieldOf (x .q)) (flat 64 (size (x .q) (x .m)) (c .collect .last .1 .1 .1 .1 .1 .1 .0)) (size
+      rank-le (fieldOf (x .q)) (flat 64 (size (x .q) (x .m)) (c .collect .last .1 .1 .1 .1 .1 .1 .1 .0)) (size
           (x .q) (x .m)),
     )
 
@@ -59,11 +59,11 @@ returns c =
     let s = c .before .before .before .before .before in
     let x = s .args in
     let r = c .compare in
-    brings-clash (x .q) (x .m) (now (x .word)) (s .pre .0 .2) (x .budget) (now (x .work)) (now (x .candidate)) (now (x .whole)) (x .next)
+    brings-clash (x .q) (x .series) (x .m) (now (x .word)) (s .pre .0 .2) (x .budget) (now (x .work)) (now (x .candidate)) (now (x .whole)) (x .next)
     (x .complete)
     (x .clash) (now (x .work)) (now (x .candidate)) (now (x .whole)) (r .result) (r .ensures .0) (x .next) (now (x .word)) (r .ensures .0 .onward)
     (r .ensures .1 .0 .0)
-    (stands-none (x .q) (x .m) (now (x .word)) (now (x .work)) (now (x .candidate)) (now (x .whole)) (x .next) (x .complete) (x .clash)
+    (stands-none (x .q) (x .series) (x .m) (now (x .word)) (now (x .work)) (now (x .candidate)) (now (x .whole)) (x .next) (x .complete) (x .clash)
     (c .before .if1 .taken))
     (r .ensures .1 .1)
 
@@ -80,12 +80,12 @@ returns-2 c =
     let r = c .compare2 in
     let complete = c .before .before .if2 .taken in
     let clear = c .before .before .before .if1 .left in
-    brings-only (x .q) (x .m) (now (x .word)) (s .pre .0 .2) (x .budget) (now (x .work)) (now (x .candidate)) (now (x .whole)) (x .next) (x .complete)
+    brings-only (x .q) (x .series) (x .m) (now (x .word)) (s .pre .0 .2) (x .budget) (now (x .work)) (now (x .candidate)) (now (x .whole)) (x .next) (x .complete)
     (x .clash) (now (x .work)) (now (x .candidate)) (now (x .whole)) (r .result) (r .ensures .0) (x .next) (r .ensures .0 .onward)
     (r .ensures .1 .0 .0)
     (r .ensures .1 .0 .1 ∙ s .pre .0 .3)
     (usable-message (x .q) (x .m) (now (x .work)) (now (x .candidate)) (x .complete) (x .clash) complete clear (s .pre .1 .2))
-    (stands-only (x .q) (x .m) (now (x .word)) (now (x .work)) (now (x .candidate)) (now (x .whole)) (x .next) (x .complete)
+    (stands-only (x .q) (x .series) (x .m) (now (x .word)) (now (x .work)) (now (x .candidate)) (now (x .whole)) (x .next) (x .complete)
     (x .clash) complete clear)
     (r .ensures .1 .1)
 
@@ -109,15 +109,15 @@ returns-3 c =
     let from = at .collect .result in
     let r = c .compare3 in
     let clashed = c .before .if3 .taken in
-    brings-clash (x .q) (x .m) (now (x .word)) (s .pre .0 .2) (x .budget) (now (x .work)) (now (x .candidate)) (now (x .whole)) (x .next)
+    brings-clash (x .q) (x .series) (x .m) (now (x .word)) (s .pre .0 .2) (x .budget) (now (x .work)) (now (x .candidate)) (now (x .whole)) (x .next)
     (x .complete)
-    (x .clash) (at .collect .last .1 .1 .1 .1 .1 .1 .0) (now (x .candidate)) (now (x .whole)) (r .result)
+    (x .clash) (at .collect .last .1 .1 .1 .1 .1 .1 .1 .0) (now (x .candidate)) (now (x .whole)) (r .result)
     (counted-on (now (x .word)) (x .budget) (x .next) 0 (from .next) (from .brought) (r .result .next) (r .result .brought) (at .collect .ensures .0)
     (r .ensures .0))
     (from .next) (now (x .word)) (r .ensures .0 .onward) (r .ensures .1 .0 .0)
     (λ h v vector.
     collects at true clashed
-    (stands-collected (x .q) (x .m) (now (x .word)) (now (x .work)) (now (x .candidate)) (now (x .whole)) (x .next) (x .complete) (x .clash)
+    (stands-collected (x .q) (x .series) (x .m) (now (x .word)) (now (x .work)) (now (x .candidate)) (now (x .whole)) (x .next) (x .complete) (x .clash)
     (c .before .before .before .before .if2 .left) (c .before .before .before .before .before .if1 .left) h) (entry v))
     (subst (λ (t : Bool). Compared (now (x .word)) (now (x .word)) (from .next) t (r .result .next) (r .result .clash)) clashed (r .ensures .1 .1))
 
@@ -127,12 +127,12 @@ returns-4 c =
     let x = s .args in
     let at = c .before .before .before in
     let from = at .collect .result in
-    brings-fewer (x .q) (x .m) (now (x .word)) (s .pre .0 .2) (x .budget) (now (x .work)) (now (x .candidate)) (now (x .whole)) (x .next)
+    brings-fewer (x .q) (x .series) (x .m) (now (x .word)) (s .pre .0 .2) (x .budget) (now (x .work)) (now (x .candidate)) (now (x .whole)) (x .next)
     (x .complete)
-    (x .clash) (at .collect .last .1 .1 .1 .1 .1 .1 .0) (now (x .candidate)) (now (x .whole)) from (at .collect .ensures .0)
+    (x .clash) (at .collect .last .1 .1 .1 .1 .1 .1 .1 .0) (now (x .candidate)) (now (x .whole)) from (at .collect .ensures .0)
     (rank (size (x .q) (x .m)) (flat 64 (size (x .q) (x .m)) (now (x .work)))) (c .before .before .if3 .left) (omega
     (arith, c .if4 .taken, s .pre .0 .3))
-    (stands-collected (x .q) (x .m) (now (x .word)) (now (x .work)) (now (x .candidate)) (now (x .whole)) (x .next) (x .complete) (x .clash)
+    (stands-collected (x .q) (x .series) (x .m) (now (x .word)) (now (x .work)) (now (x .candidate)) (now (x .whole)) (x .next) (x .complete) (x .clash)
     (c .before .before .before .before .before .if2 .left) (c .before .before .before .before .before .before .if1 .left))
     (at .collect .ensures .1)
 
@@ -144,10 +144,10 @@ settle-requires c κs =
     let clear = c .before .before .before .before .before .before .if3 .left in
     let ready = collects at false clear .0 .ready in
     let k = size (x .q) (x .m) in (
-      (s .pre .0 .0, s .pre .0 .1, s .pre .0 .3, s .pre .1 .0, s .pre .1 .1 ∙ s .pre .0 .2 .long ∙ full-places (x .q) (short-curve (x .q) (s .pre .0 .0))),
+      (s .pre .0 .0, s .pre .0 .1, s .pre .0 .3, s .pre .1 .0, s .pre .1 .1 ∙ s .pre .0 .2 .long ∙ full-places (x .q) (x .series) (short-curve (x .q) (s .pre .0 .0))),
       (
         ready .formed,
-        rank-full (fieldOf (x .q)) (flat 64 k (at .collect .last .1 .1 .1 .1 .1 .1 .0)) k (sym (ready .ranked)
+        rank-full (fieldOf (x .q)) (flat 64 k (at .collect .last .1 .1 .1 .1 .1 .1 .1 .0)) k (sym (ready .ranked)
             ∙ full at clear (c .before .before .before .before .if4 .left)),
       ),
     )
@@ -169,14 +169,14 @@ returns-5 c =
     let k = size (x .q) (x .m) in
     let at = c .before .before .before .before .before .before .before .before .before .before .before .before .before .before in
     let from = at .collect .result in
-    let after = at .collect .last .1 .1 .1 .1 .1 .1 .0 in
+    let after = at .collect .last .1 .1 .1 .1 .1 .1 .1 .0 in
     let settled = c .before .before .before .before .before .before .settle in
-    let candidate = settled .last .1 .1 .1 .1 .0 in
-    let whole = settled .last .1 .1 .1 .1 .1 .0 in
-    let long = settled .kept .1 .1 .1 .1 .0 ∙ s .pre .1 .0 in
+    let candidate = settled .last .1 .1 .1 .1 .1 .0 in
+    let whole = settled .last .1 .1 .1 .1 .1 .1 .0 in
+    let long = settled .kept .1 .1 .1 .1 .1 .0 ∙ s .pre .1 .0 in
     let r = c .compare4 in
     let clear = c .before .before .before .before .before .before .before .before .before .before .before .before .before .if3 .left in
-    brings-only (x .q) (x .m) (now (x .word)) (s .pre .0 .2) (x .budget) (now (x .work)) (now (x .candidate)) (now (x .whole)) (x .next) (x .complete)
+    brings-only (x .q) (x .series) (x .m) (now (x .word)) (s .pre .0 .2) (x .budget) (now (x .work)) (now (x .candidate)) (now (x .whole)) (x .next) (x .complete)
     (x .clash) after candidate whole (r .result)
     (counted-on (now (x .word)) (x .budget) (x .next) 0 (from .next) (from .brought) (r .result .next) (r .result .brought) (at .collect .ensures .0)
     (r .ensures .0))
@@ -184,9 +184,9 @@ returns-5 c =
     ∙ full at clear (c .before .before .before .before .before .before .before .before .before .before .before .if4 .left))
     (solves-vector (fieldOf (x .q)) (flat 64 k after) k candidate long (settled .ensures .0))
     (λ h.
-    only-solution (x .q) (x .m) (now (x .word)) (s .pre .0 .2) after (from .next) (from .rank) candidate whole
+    only-solution (x .q) (x .series) (x .m) (now (x .word)) (s .pre .0 .2) after (from .next) (from .rank) candidate whole
     (collects at false clear .0 .collected
-    (stands-collected (x .q) (x .m) (now (x .word)) (now (x .work)) (now (x .candidate)) (now (x .whole)) (x .next) (x .complete) (x .clash)
+    (stands-collected (x .q) (x .series) (x .m) (now (x .word)) (now (x .work)) (now (x .candidate)) (now (x .whole)) (x .next) (x .complete) (x .clash)
     (c .before .before .before .before .before .before .before .before .before .before .before .before .before .before .before .before .if2 .left)
     (c .before .before .before .before .before .before .before .before .before .before .before .before .before .before .before .before .before
     .if1 .left) h))

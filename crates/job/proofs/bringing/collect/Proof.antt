@@ -10,7 +10,7 @@ use lib.ListN.{take, replicate}
 use lib.Seq.{length-take-le}
 use Rattle.field.specs.declared.curve.Curve.{Curve}
 use Rattle.linear.specs.inner.Systems.{flat, rank}
-use Rattle.points.specs.Points.{columnsOf}
+use Rattle.points.specs.Series.{columnsOf}
 use Rattle.points.proofs.AllColumns.{columns-are, columns-fit, columns-long}
 use Rattle.code.specs.Terms.{size}
 use Rattle.code.specs.inner.Recovering.{BrokenOver}
@@ -23,8 +23,8 @@ use Rattle.job.proofs.bringing.collect.Tie as tie
 -- the columns that are lent
 columns : (c : tie.After-rank)
     → take (c .before .before .before .at .result .symbols) (c .before .before .before .before .columns .result) ≡ columnsOf
-    (c .before .before .before .before .before .before .before .before .before .before .args .q)
-columns c = columns-are _ (c .before .before .before .before .before .before .before .before .before .before .pre .0 .4) _ _
+    (c .before .before .before .before .before .before .before .before .before .before .args .q) (c .before .before .before .before .before .before .before .before .before .before .args .series)
+columns c = columns-are _ _ (c .before .before .before .before .before .before .before .before .before .before .pre .0 .4) _ _
     (ap (λ (v : Curve). v .symbols) (c .before .before .before .at .ensures)) (c .before .before .before .before .columns .ensures)
 
 -- the rows that are counted
@@ -43,7 +43,7 @@ entries-requires c κs =
     let s = c .before .before .before in
     let h = s .pre .0 .0 in (
       h .over .curve,
-      omega (arith, h .order, columns-short (s .args .q) (columnsOf (s .args .q)) (h .over) (s .pre .0 .4) (h .few)),
+      omega (arith, h .order, columns-short (s .args .q) (columnsOf (s .args .q) (s .args .series)) (h .over) (s .pre .0 .4) (h .few)),
       omega (arith, s .pre .0 .2),
     )
 
@@ -60,12 +60,12 @@ rank-requires : tie.Need-rank-requires
 rank-requires c κs = search needs
 
 array-share-prefix-columns : tie.Need-array-share-prefix-columns
-array-share-prefix-columns c = columns-fit _
+array-share-prefix-columns c = columns-fit _ _
     (c .before .before .before .before .before .before .before .before .before .before .pre .0 .4) _ _
     (ap (λ (v : Curve). v .symbols) (c .before .before .before .at .ensures)) (c .before .before .before .before .columns .ensures)
 
 slice-aggregate-bring-equations : tie.Need-slice-aggregate-bring-equations
-slice-aggregate-bring-equations c = columns-long _
+slice-aggregate-bring-equations c = columns-long _ _
     (c .before .before .before .before .before .before .before .before .before .before .before .pre .0 .4) _ _
     (ap (λ (v : Curve). v .symbols) (c .before .before .before .before .at .ensures)) (c .before .before .before .before .before .columns .ensures)
 
@@ -104,7 +104,7 @@ returns c =
     let r = c .before .before .bring-equations in
     let after = r .last .1 .1 .1 .1 .1 .1 .1 .1 .0 in (
       r .ensures .0,
-      subst (λ (n : ℕ). Collects (x .q) (columnsOf (x .q)) (x .m) (now (x .word)) (x .budget) (now (x .work)) (x .next) n after (r .result .next)
+      subst (λ (n : ℕ). Collects (x .q) (columnsOf (x .q) (x .series)) (x .m) (now (x .word)) (x .budget) (now (x .work)) (x .next) n after (r .result .next)
           (r .result .rank) (r .result .brought) (r .result .clash)) (rows (c .before .before .before .before .before .before))
           (subst (λ (l : List ℕ). Collects (x .q) l (x .m) (now (x .word)) (x .budget) (now (x .work)) (x .next)
           (c .before .before .before .before .before .before .rank .result) after

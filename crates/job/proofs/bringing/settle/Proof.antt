@@ -1,7 +1,7 @@
 -- `job::bringing::settle` meets its contract: the solution is encoded.
 -- Assumes nothing.
 use mathlib.Core.Path.{sym, _∙_, subst}
-use Prim.Native.Nat.{ℕ, _*_}
+use Prim.Native.Nat.{ℕ}
 use native.Mathlib.Omega.{arith}
 use borrow.Author.Needs.{needs}
 use denote.Ref.{now}
@@ -9,7 +9,7 @@ use Rattle.field.proofs.Curves.{short-curve, short-not-long}
 use Rattle.field.proofs.Fields.{fieldOf}
 use Rattle.linear.specs.inner.Systems.{flat, WellFormed, Solution, Solves}
 use Rattle.linear.proofs.Substitution.{solves-full}
-use Rattle.points.proofs.ColumnPoints.{full-columns, full-places, length-upTo}
+use Rattle.points.proofs.Series.{length-columns, full-columns, full-places}
 use Rattle.code.specs.Terms.{size}
 use Rattle.equations.proofs.Collecting.{solution-below}
 use Rattle.job.proofs.bringing.settle.Statement.{statement}
@@ -39,16 +39,17 @@ write-word-requires c κs =
     let s = e .before .before .before .before .before in
     let x = s .args in
     let q = x .q in
+    let series = x .series in
     let candidate = e .solve .last .1 .1 .1 .1 .0 in
     let long = e .solve .kept .1 .1 .1 .1 .0 ∙ s .pre .0 .3 in
     let curve = short-curve q (s .pre .0 .0) in (
       record {
-        over = full-columns q curve;
-        few = omega (arith, length-upTo (q * q));
-        order = omega (arith, s .pre .0 .1, full-places q curve);
+        over = full-columns q series curve;
+        few = omega (arith, length-columns q series curve);
+        order = omega (arith, s .pre .0 .1, full-places q series curve);
         long = long;
         symbols = solution-below q (x .m) (now (x .work)) candidate (solution e) long;
-        room = s .pre .0 .4 ∙ sym (full-places q curve);
+        room = s .pre .0 .4 ∙ sym (full-places q series curve);
       },
       s .pre .0 .0,
     )

@@ -39,7 +39,7 @@ is-short-requires c κs = search needs
 returns : tie.Need-returns
 returns c =
     let x = c .before .before .before .before .args in
-    tested-curve (x .q) (x .m) (now (x .places)) (x .next) (now (x .work)) (now (x .candidate)) (x .complete) (x .clash)
+    tested-curve (x .q) (x .series) (x .m) (now (x .places)) (x .next) (now (x .work)) (now (x .candidate)) (x .complete) (x .clash)
     (sym (c .before .is-short .ensures) ∙ not-true (c .before .is-short .result) (c .if1 .taken))
 
 at-requires : tie.Need-at-requires
@@ -59,7 +59,7 @@ returns-2 c =
     let known = c .before .before .before in
     let x = start known .args in
     let o = c .before .opening in
-    tested-refused (x .q) (x .m) (now (x .places)) (x .next) (now (x .work)) (now (x .candidate)) (x .complete) (x .clash)
+    tested-refused (x .q) (x .series) (x .m) (now (x .places)) (x .next) (now (x .work)) (now (x .candidate)) (x .complete) (x .clash)
     (curve known .points) (points known) (o .result) (o .ensures) (not-done (o .result) (c .match .keys2))
 
 returns-3 : tie.Need-returns-3
@@ -67,7 +67,7 @@ returns-3 c =
     let known = c .before .before .before .before .before in
     let x = start known .args in
     let o = c .before .before .before .opening in
-    tested-beyond (x .q) (x .m) (now (x .places)) (x .next) (now (x .work)) (now (x .candidate)) (x .complete) (x .clash)
+    tested-beyond (x .q) (x .series) (x .m) (now (x .places)) (x .next) (now (x .work)) (now (x .candidate)) (x .complete) (x .clash)
     (curve known .points) (points known) (o .result) (o .ensures) (c .if2 .taken)
 
 size-requires : tie.Need-size-requires
@@ -78,7 +78,7 @@ is-formed-requires c κs =
     let known = c .before .before .before .before .before .before in
     let o = c .before .before .before .before .opening in
     let x = start known .args in
-    let short = open-short (x .q) (x .m) _ (sym (o .ensures) ∙ c .before .before .enum-told .given .1) in
+    let short = open-short (x .q) (x .series) (x .m) _ (sym (o .ensures) ∙ c .before .before .enum-told .given .1) in
     (block known, omega (arith, short, c .size .ensures), start known .pre .1)
 
 returns-4 : tie.Need-returns-4
@@ -87,7 +87,7 @@ returns-4 c =
     let x = start known .args in
     let o = c .before .before .before .before .before .opening in
     let k = c .before .size in
-    tested-all (x .q) (x .m) (now (x .places)) (x .next) (now (x .work)) (now (x .candidate)) (x .complete) (x .clash)
+    tested-all (x .q) (x .series) (x .m) (now (x .places)) (x .next) (now (x .work)) (now (x .candidate)) (x .complete) (x .clash)
     (curve known .points) (points known) (o .result) (o .ensures) (c .before .before .before .enum-told .given .1) (c .before .before .if2 .left)
     (k .result) (k .ensures) (c .is-formed .result) (c .is-formed .ensures (x .m) (k .ensures))
 

@@ -12,7 +12,7 @@ use Rattle.job.proofs.turns.carry_through.Tie as tie
 
 abbrev Inv-loop : tie.InvT-loop
 Inv-loop job₀ budgets message₀ i₀ job message i =
-    (i ≤ length budgets) × Carries (job₀ .q) (job₀ .m) (storedWord job₀) message₀ job message
+    (i ≤ length budgets) × Carries (job₀ .q) (job₀ .series) (job₀ .m) (storedWord job₀) message₀ job message
 
 abbrev μ-loop : tie.MeasureT-loop
 μ-loop job₀ budgets message₀ i₀ job message i = length budgets - i
@@ -39,7 +39,7 @@ loop-again c =
     let r = c .before .before .before .carry-on in
     let h = r .ensures .1 .1 (l .inv .1 .sound) in (
       omega arith,
-      carries-more (x .job .q) (x .job .m) (storedWord (x .job))
+      carries-more (x .job .q) (x .job .series) (x .job .m) (storedWord (x .job))
           (c .before .before .before .before .before .before .before .before .before .before .pre .passes) (now (x .message)) (l .job) (l .message)
           (l .inv .1) _
           (r .result .job) (r .result .brought) (r .result .reply) (r .last .1 .1 .0) (record { sound = h .0; result = h .1 }) (r .kept .1 .1 .0),

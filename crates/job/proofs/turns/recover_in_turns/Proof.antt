@@ -38,18 +38,18 @@ returns c =
     let through = c .before .before .before .before .before .before .before .carry-through in
     let turn = c .before .before .before .carry-on in
     let h = turn .ensures .1 .1 (through .ensures .sound) in
-    of-arguments (x .q) (x .m) (now (x .word)) (o .result .outcome) (now (x .message)) j (o .ensures .0)
+    of-arguments (x .q) (x .series) (x .m) (now (x .word)) (o .result .outcome) (now (x .message)) j (o .ensures .0)
     (c .before .before .before .before .before .before .before .before .before .before .enum-told .given .1)
-    ∙ carries-all (j .q) (j .m) (storedWord j) passes (now (x .message)) (through .result) (through .last .1 .1 .0) (through .ensures) 255
+    ∙ carries-all (j .q) (j .series) (j .m) (storedWord j) passes (now (x .message)) (through .result) (through .last .1 .1 .0) (through .ensures) 255
     (turn .result .job) (turn .result .brought) (turn .result .reply) (turn .last .1 .1 .0) (record { sound = h .0; result = h .1 })
-    (budget-enough (j .q) (j .m) (storedWord j) passes)
+    (budget-enough (j .q) (j .series) (j .m) (storedWord j) passes)
     ∙ ap (λ (y : Outcome). answered y (turn .last .1 .1 .0)) (sym (c .outcome .ensures))
 
 returns-2 : tie.Need-returns-2
 returns-2 c =
     let x = c .before .before .before .before .before .args in
     let o = c .before .«open» in
-    refused-opening (x .q) (x .m) (now (x .word)) (o .result .outcome) (now (x .message)) (taskOf (o .result .job)) (o .ensures .0)
+    refused-opening (x .q) (x .series) (x .m) (now (x .word)) (o .result .outcome) (now (x .message)) (taskOf (o .result .job)) (o .ensures .0)
     (not-done (o .result .outcome) (c .match .keys2))
 
 pub recover-in-turns-spec : {M : Type 1} → statement M

@@ -39,7 +39,7 @@ returns c =
     let n = c .before .before .before .before .before .number in
     let s = c .before .before .before .before .second in
     let last = c .before .before .last-line in
-    let whole = page-whole block (r .result) (r .last .1 .1 .1 .0) (r .ensures) (n .result) (s .result) (n .ensures) (s .ensures) in
+    let whole = page-whole block (r .result) (r .last .1 .1 .1 .1 .0) (r .ensures) (n .result) (s .result) (n .ensures) (s .ensures) in
     (rw (sym whole) (next (columns .ensures .0) (last .ensures .0)), omega arith)
 
 pub page-spec : {M : Type 1} → statement M

@@ -46,23 +46,23 @@ room c =
     omega (arith, sized c, reach-size (s .args .q) (s .pre .0 .curve) (s .args .m))
 
 -- what comes back is as long as what was lent
-found-long : (c : tie.After-find) → length (c .find .last .1 .1 .1 .1 .0) ≡ c .before .before .size .result
-found-long c = c .find .kept .1 .1 .1 .1 .0 ∙ length-take-le _ (zeros 32) (room (c .before .before))
+found-long : (c : tie.After-find) → length (c .find .last .1 .1 .1 .1 .1 .0) ≡ c .before .before .size .result
+found-long c = c .find .kept .1 .1 .1 .1 .1 .0 ∙ length-take-le _ (zeros 32) (room (c .before .before))
 
 -- what the search for a locator says, by what it returned
 located : (c : tie.After-find) (b : Bool) → c .find .result ≡ b
     → let x = c .before .before .before .before .before .before .before .before .before .before .before .before .args in
-    Located (x .q) (x .m) (now (x .word)) (c .find .last .1 .1 .1 .1 .0) b
+    Located (x .q) (x .series) (x .m) (now (x .word)) (c .find .last .1 .1 .1 .1 .1 .0) b
 located c b e =
     let x = c .before .before .before .before .before .before .before .before .before .before .before .before .args in
-    subst (Located (x .q) (x .m) (now (x .word)) (c .find .last .1 .1 .1 .1 .0)) e (c .find .ensures)
+    subst (Located (x .q) (x .series) (x .m) (now (x .word)) (c .find .last .1 .1 .1 .1 .1 .0)) e (c .find .ensures)
 
 read-word-requires : tie.Need-read-word-requires
 read-word-requires c κs =
     let s = c .before .before .before in
     let x = s .args in (
-      readable (x .q) (x .m) (now (x .word)) (now (x .message)) (short-curve _ (s .pre .0 .curve)) (omega (arith, s .pre .0 .order))
-          (word-accepted (x .q) (x .m) (now (x .word)) (s .pre .0) (now (x .message)) (s .pre .2)),
+      readable (x .q) (x .series) (x .m) (now (x .word)) (now (x .message)) (short-curve _ (s .pre .0 .curve)) (omega (arith, s .pre .0 .order))
+          (word-accepted (x .q) (x .series) (x .m) (now (x .word)) (s .pre .0) (now (x .message)) (s .pre .2)),
       s .pre .0 .curve,
     )
 
@@ -77,7 +77,7 @@ returns c =
     let s = c .before .before .before .before .before .before .before .before in
     let x = s .args in
     let u = c .before .before .before .before .read-word in
-    unencoded-only (x .q) (x .m) (now (x .word)) (s .pre .0) (now (x .message)) (u .last .1 .1 .1 .0) (u .result) (s .pre .2) (u .ensures)
+    unencoded-only (x .q) (x .series) (x .m) (now (x .word)) (s .pre .0) (now (x .message)) (u .last .1 .1 .1 .1 .0) (u .result) (s .pre .2) (u .ensures)
     (c .enum-told .given .1)
 
 at-requires : tie.Need-at-requires
@@ -104,11 +104,11 @@ cast-read-rest : tie.Need-cast-read-rest
 cast-read-rest c = omega (arith, reached-le (c .before .before .before .before .before .before))
 
 array-share-prefix-found : tie.Need-array-share-prefix-found
-array-share-prefix-found c = front-fits _ (c .before .before .find .last .1 .1 .1 .1 .0) _ (found-long (c .before .before))
+array-share-prefix-found c = front-fits _ (c .before .before .find .last .1 .1 .1 .1 .1 .0) _ (found-long (c .before .before))
 
 slice-aggregate-read-rest : tie.Need-slice-aggregate-read-rest
 slice-aggregate-read-rest c =
-    sym (again-long _ (c .before .before .before .find .last .1 .1 .1 .1 .0) _ (found-long (c .before .before .before)))
+    sym (again-long _ (c .before .before .before .find .last .1 .1 .1 .1 .1 .0) _ (found-long (c .before .before .before)))
 
 read-rest-requires : tie.Need-read-rest-requires
 read-rest-requires c κs =
@@ -117,9 +117,9 @@ read-rest-requires c κs =
     let f = c .before .before .before .before in (
       s .pre .0,
       reached (c .before .before .before .before .before .before .before .before),
-      subst (Locator (x .q) (x .m) (now (x .word))) (sym (front-again _ (f .find .last .1 .1 .1 .1 .0) _ (found-long f)))
+      subst (Locator (x .q) (x .series) (x .m) (now (x .word))) (sym (front-again _ (f .find .last .1 .1 .1 .1 .1 .0) _ (found-long f)))
           (located f _ (c .before .before .if1 .taken)),
-      c .before .before .before .before .before .before .before .before .before .before .before .before .read-word .kept .1 .1 .1 .0 ∙ s .pre .2,
+      c .before .before .before .before .before .before .before .before .before .before .before .before .read-word .kept .1 .1 .1 .1 .0 ∙ s .pre .2,
     )
 
 same-length-2 : tie.Need-same-length-2
@@ -135,7 +135,7 @@ returns-3 : tie.Need-returns-3
 returns-3 c =
     let s = c .before .before .before .before .before .before .before .before .before .before .before .before .before .before in
     let x = s .args in
-    none-near (x .q) (x .m) (now (x .word)) (s .pre .0) (located (c .before .before) _ (c .if1 .left))
+    none-near (x .q) (x .series) (x .m) (now (x .word)) (s .pre .0) (located (c .before .before) _ (c .if1 .left))
 
 pub find-spec : {M : Type 1} → statement M
 find-spec =

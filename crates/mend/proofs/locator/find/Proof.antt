@@ -27,9 +27,9 @@ room c = rw (c .pre .1) (reach-size (c .args .q) (c .pre .0 .curve) (c .args .m)
 
 -- the products and the starts
 prepared : (c : tie.After-starts2) → let x = c .before .before .before .before .before .before .before .before .before .before .args in
-    Prepared (x .q) (x .s) (c .before .before .before .before .before .before .before .divide .result .whole + 1) (length (now (x .word)))
+    Prepared (x .q) (x .series) (x .s) (c .before .before .before .before .before .before .before .divide .result .whole + 1) (length (now (x .word)))
     (now (x .word)) (take (length (now (x .f))) (c .before .write-starts .last .1 .1 .1 .0))
-    (c .before .before .before .before .write-products .last .1 .1 .1 .0)
+    (c .before .before .before .before .write-products .last .1 .1 .1 .1 .0)
 prepared c =
     let s = c .before .before .before .before .before .before .before .before .before .before in
     let x = s .args in
@@ -39,7 +39,7 @@ prepared c =
       curve = s .pre .0 .curve;
       powers = ap (λ (n : ℕ). n + 1) (d .divide .ensures .0);
       places = s .pre .0 .long;
-      fits = rw (p .kept .1 .1 .1 .0, count-is d) (reach-grids (x .q) (s .pre .0 .curve) (x .m));
+      fits = rw (p .kept .1 .1 .1 .1 .0, count-is d) (reach-grids (x .q) (s .pre .0 .curve) (x .m));
       starts-at = starts-taken (x .q) (x .s) _ (length (now (x .f))) _ (s .pre .2) (c .before .write-starts .ensures);
       products = p .ensures;
     }
@@ -59,7 +59,7 @@ write-products-requires : tie.Need-write-products-requires
 write-products-requires c κs =
     let s = c .before .before .before .before .before in
     let x = s .args in (
-      (s .pre .0 .curve, s .pre .0 .long, word-symbols (x .q) (x .m) (now (x .word)) (s .pre .0)),
+      (s .pre .0 .curve, s .pre .0 .long, word-symbols (x .q) (x .series) (x .m) (now (x .word)) (s .pre .0)),
       rw (count-is (c .before .before)) (reach-grids (x .q) (s .pre .0 .curve) (x .m)),
     )
 
@@ -100,19 +100,19 @@ bring-entries-requires c κs =
       (
         s .pre .0 .curve,
         s .pre .0 .long,
-        heavy-low (x .q) (x .m) (now (x .word)) (s .pre .0) (x .s) (s .pre .1),
+        heavy-low (x .q) (x .series) (x .m) (now (x .word)) (s .pre .0) (x .s) (s .pre .1),
         sym (slice-aggregate-bring-entries (c .before .before)) ∙ s .pre .2,
         room s,
         omega (
           arith,
           s .pre .0 .long,
           short-sizes (x .q) (s .pre .0 .curve) .points,
-          c .before .before .before .before .before .before .before .write-products .kept .1 .1 .1 .0,
+          c .before .before .before .before .before .before .before .write-products .kept .1 .1 .1 .1 .0,
           length-replicate {A = ℕ} 2304 0,
         ),
       ),
       (
-        (λ i e a b. readable (x .q) (x .s) _ (length (now (x .word))) (now (x .word)) _ _ h i a e b),
+        (λ i e a b. readable (x .q) (x .series) (x .s) _ (length (now (x .word))) (now (x .word)) _ _ h i a e b),
         (refl, getD-zeros 1024),
       ),
     )
@@ -148,7 +148,7 @@ returns c =
     let x = s .args in
     let v = c .before .before .before .solve-nonzero in
     let b = c .before .before .before .before .before .before .before .bring-entries in
-    located (x .q) (x .m) (now (x .word)) (s .pre .0) (x .s) _ (length (now (x .word))) (length (now (x .f))) _ _
+    located (x .q) (x .series) (x .m) (now (x .word)) (s .pre .0) (x .s) _ (length (now (x .word))) (length (now (x .f))) _ _
     (b .last .1 .1 .1 .1 .1 .1 .0) (v .last .1 .1 .1 .1 .1 .0) (v .result) (s .pre .1) (prepared p) (b .ensures) (s .pre .2)
     (v .kept .1 .1 .1 .1 .1 .0) (v .ensures)
 

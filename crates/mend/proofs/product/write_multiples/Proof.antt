@@ -1,7 +1,7 @@
 -- `mend::product::write_multiples` meets its contract: block by block. Assumes nothing.
 use mathlib.Core.List.{List}
 use mathlib.Core.Path.{_≡_, refl, sym, _∙_, subst}
-use Prim.Native.Nat.{ℕ, _+_, _-_, _*_, _≤_}
+use Prim.Native.Nat.{ℕ, _+_, _-_, _≤_}
 use native.Mathlib.Nat.{mul-suc, mul-le-mul-left, le-antisymm}
 use native.Mathlib.Omega.{arith}
 use denote.Ref.{now}
@@ -11,8 +11,8 @@ use Rattle.field.proofs.Curves.{short-curve, short-sizes}
 use Rattle.poly.proofs.Entries.{zeros}
 use Rattle.poly.proofs.Multiples.{stored-all}
 use Rattle.poly.proofs.Parts.{length-part}
-use Rattle.points.specs.Points.{columnsOf}
-use Rattle.points.proofs.ColumnPoints.{length-upTo, full-columns, full-places}
+use Rattle.points.specs.Series.{columnsOf}
+use Rattle.points.proofs.Series.{full-columns, length-columns, full-places}
 use Rattle.mend.specs.inner.Products.{Multiples}
 use Rattle.mend.proofs.ProductBlocks.{Multiplying, multiplying-none, multiplying-more}
 use Rattle.mend.proofs.product.write_multiples.Statement.{statement}
@@ -20,16 +20,19 @@ use Rattle.mend.proofs.product.write_multiples.Tie as tie
 
 abbrev Inv-loop : tie.InvT-loop
 Inv-loop q n count first out₀ grid₀ i₀ at₀ out grid i at =
-    (i ≤ count) × ((curve : IsCurve q) → Multiplying q (columnsOf q) (full-columns q curve) (length-upTo (q * q)) first out₀ out grid i at)
+    (i ≤ count)
+    × ((series : ℕ) (curve : IsCurve q)
+    → Multiplying q (columnsOf q series) (full-columns q series curve) (length-columns q series curve) first out₀ out grid i at)
 
 abbrev μ-loop : tie.MeasureT-loop
 μ-loop q n count first out₀ grid₀ i₀ at₀ out grid i at = count - i
 
--- what the loop has so far, and that the next block fits
+-- what the loop has so far, here in series 1, and that the next block fits
 so : (c : tie.In-loop Inv-loop μ-loop) → let s = c .before .before .before .before .before .before .before in let l = c .before .loop in
-    Multiplying (s .args .q) (columnsOf (s .args .q)) (full-columns (s .args .q) (short-curve _ (s .pre .0))) (length-upTo (s .args .q * s .args .q))
+    let q = s .args .q in
+    Multiplying q (columnsOf q 1) (full-columns q 1 (short-curve q (s .pre .0))) (length-columns q 1 (short-curve q (s .pre .0)))
     (now (s .args .first)) (now (s .args .out)) (l .out) (l .grid) (l .i) (l .at)
-so c = let s = c .before .before .before .before .before .before .before in c .before .loop .inv .1 (short-curve _ (s .pre .0))
+so c = let s = c .before .before .before .before .before .before .before in c .before .loop .inv .1 1 (short-curve _ (s .pre .0))
 
 fits : (c : tie.In-loop Inv-loop μ-loop) → c .before .loop .at + 64 ≤ length (c .before .loop .out)
 fits c =
@@ -46,12 +49,12 @@ copy-requires c κs = (omega (arith, c .before .before .before .pre .2), omega a
 loop-holds : tie.Need-loop-holds Inv-loop μ-loop
 loop-holds c =
     let s = c .before .before .before .before .before in
+    let q = s .args .q in
     let e = c .before .copy .ensures ∙ stored-all 64 (now (s .args .first)) (zeros 64) (s .pre .2) (length-replicate {A = ℕ} 64 0) in (
       omega arith,
-      λ curve. subst (λ (g : List ℕ). Multiplying (s .args .q) (columnsOf (s .args .q)) (full-columns (s .args .q) curve) (length-upTo
-          (s .args .q * s .args .q))
+      λ series curve. subst (λ (g : List ℕ). Multiplying q (columnsOf q series) (full-columns q series curve) (length-columns q series curve)
           (now (s .args .first)) (now (s .args .out)) (now (s .args .out)) g 0 0) (sym e)
-          (multiplying-none (s .args .q) (columnsOf (s .args .q)) (full-columns (s .args .q) curve) (length-upTo (s .args .q * s .args .q))
+          (multiplying-none q (columnsOf q series) (full-columns q series curve) (length-columns q series curve)
           (now (s .args .first)) (now (s .args .out)) (s .pre .2) (s .pre .3)),
     )
 
@@ -98,21 +101,23 @@ loop-again c =
     let l = c .before .before .before .before .before .before .before .before .loop in
     let q = s .args .q in (
       omega arith,
-      λ curve. multiplying-more q (columnsOf q) (full-columns q curve) (length-upTo (q * q)) (s .args .n) (s .pre .1 ∙ sym (full-places q curve))
-          (now (s .args .first)) (now (s .args .out)) (l .out) (l .grid) _ _ (l .i) (l .at) (l .inv .1 curve)
+      λ series curve. multiplying-more q (columnsOf q series) (full-columns q series curve) (length-columns q series curve)
+          (s .args .n) (s .pre .1 ∙ sym (full-places q series curve)) (now (s .args .first)) (now (s .args .out))
+          (l .out) (l .grid) _ _ (l .i) (l .at) (l .inv .1 series curve)
           (fits (c .before .before .before .before .before .before .before)) (c .before .before .before .before .copy2 .ensures)
           (c .times-x .ensures),
     )
 
 same-length : tie.Need-same-length Inv-loop μ-loop
-same-length c = let s = c .before .before .before .before .before .before .before in c .before .loop .inv .1 (short-curve _ (s .pre .0)) .long
+same-length c = let s = c .before .before .before .before .before .before .before in c .before .loop .inv .1 1 (short-curve _ (s .pre .0)) .long
 
 returns : tie.Need-returns Inv-loop μ-loop
-returns c =
+returns c series =
     let s = c .before .before .before .before .before .before .before in
     let l = c .before .loop in
     let e : l .i ≡ s .args .count = le-antisymm (l .inv .0) (c .loop-test .left) in
-    subst (λ (i : ℕ). Multiples (s .args .q) (columnsOf (s .args .q)) (now (s .args .first)) (l .out) i) e (l .inv .1 (short-curve _ (s .pre .0)) .done)
+    subst (λ (i : ℕ). Multiples (s .args .q) (columnsOf (s .args .q) series) (now (s .args .first)) (l .out) i) e
+    (l .inv .1 series (short-curve _ (s .pre .0)) .done)
 
 pub write-multiples-spec : {M : Type 1} → statement M
 write-multiples-spec =

@@ -8,8 +8,8 @@ use lib.ListN.{length}
 use Rattle.field.specs.Curve.{IsCurve}
 use Rattle.field.proofs.Curves.{short-curve, short-sizes}
 use Rattle.poly.proofs.Parts.{length-part}
-use Rattle.points.specs.Points.{columnsOf}
-use Rattle.points.proofs.ColumnPoints.{length-upTo, full-columns, full-places}
+use Rattle.points.specs.Series.{columnsOf}
+use Rattle.points.proofs.Series.{full-columns, length-columns, full-places}
 use Rattle.mend.specs.inner.Products.{Products}
 use Rattle.mend.proofs.ProductGrids.{full-word, takes-grid, product-start}
 use Rattle.mend.proofs.ProductBlocks.{block-before, one-part, Producing, producing-none, producing-more}
@@ -17,15 +17,18 @@ use Rattle.mend.proofs.product.write_products.Statement.{statement}
 use Rattle.mend.proofs.product.write_products.Tie as tie
 
 abbrev Inv-loop : tie.InvT-loop
-Inv-loop q count word grids₀ n width part grid₀ j₀ at₀ grids grid j at =
-    (j ≤ q) × ((curve : IsCurve q) → Producing q (columnsOf q) (full-columns q curve) (length-upTo (q * q)) word count grids₀ grids grid j at)
+Inv-loop q series count word grids₀ n width part grid₀ j₀ at₀ grids grid j at =
+    (j ≤ q)
+    × ((curve : IsCurve q)
+    → Producing q (columnsOf q series) (full-columns q series curve) (length-columns q series curve) word count grids₀ grids grid j at)
 
 abbrev μ-loop : tie.MeasureT-loop
-μ-loop q count word grids₀ n width part grid₀ j₀ at₀ grids grid j at = q - j
+μ-loop q series count word grids₀ n width part grid₀ j₀ at₀ grids grid j at = q - j
 
 -- what the loop has so far, and that the next part fits
 so : (c : tie.In-loop Inv-loop μ-loop) → let s = c .before .before .before .before .before in let l = c .before .loop in
-    Producing (s .args .q) (columnsOf (s .args .q)) (full-columns (s .args .q) (short-curve _ (s .pre .0 .0))) (length-upTo (s .args .q * s .args .q))
+    let q = s .args .q in let series = s .args .series in let curve = short-curve q (s .pre .0 .0) in
+    Producing q (columnsOf q series) (full-columns q series curve) (length-columns q series curve)
     (now (s .args .word)) (s .args .count) (now (s .args .grids)) (l .grids) (l .grid) (l .j) (l .at)
 so c = let s = c .before .before .before .before .before in c .before .loop .inv .1 (short-curve _ (s .pre .0 .0))
 
@@ -44,19 +47,20 @@ mul-part c =
 interpolate-short-requires : tie.Need-interpolate-short-requires Inv-loop μ-loop
 interpolate-short-requires c κs =
     let s = c .before .before in
-    (full-word (s .args .q) (short-curve _ (s .pre .0 .0)) (now (s .args .word)) (s .pre .0 .1) (s .pre .0 .2), s .pre .0 .0)
+    (full-word (s .args .q) (s .args .series) (short-curve _ (s .pre .0 .0)) (now (s .args .word)) (s .pre .0 .1) (s .pre .0 .2), s .pre .0 .0)
 
 loop-holds : tie.Need-loop-holds Inv-loop μ-loop
 loop-holds c =
     let s = c .before .before .before in
-    let q = s .args .q in
+    let q = s .args .q in let series = s .args .series in
     let r = c .interpolate-short in (
       omega arith,
-      λ curve. producing-none q (columnsOf q) (full-columns q curve) (length-upTo (q * q)) (now (s .args .word)) (s .args .count) (now
-          (s .args .grids))
-          (r .result) (r .ensures .1)
-          (product-start q (columnsOf q) (full-columns q curve) (length-upTo (q * q)) (now (s .args .word)) (r .result) (s .pre .0 .2)
-          (takes-grid q (columnsOf q) (full-columns q curve) (length-upTo (q * q)) (now (s .args .word)) (r .result) (r .ensures .0))),
+      λ curve. producing-none q (columnsOf q series) (full-columns q series curve) (length-columns q series curve) (now (s .args .word)) (s .args .count)
+          (now (s .args .grids)) (r .result) (r .ensures .1)
+          (product-start q (columnsOf q series) (full-columns q series curve) (length-columns q series curve) (now (s .args .word)) (r .result)
+          (s .pre .0 .2)
+          (takes-grid q (columnsOf q series) (full-columns q series curve) (length-columns q series curve) (now (s .args .word)) (r .result)
+          (r .ensures .0))),
     )
 
 add-end : tie.Need-add-end Inv-loop μ-loop
@@ -107,16 +111,16 @@ loop-again : tie.Need-loop-again Inv-loop μ-loop
 loop-again c =
     let s = c .before .before .before .before .before .before .before .before .before .before .before .before in
     let l = c .before .before .before .before .before .before .before .before .loop in
-    let q = s .args .q in
+    let q = s .args .q in let series = s .args .series in
     let w = c .before .before .before .before .write-multiples in
     let long = length-part (l .grids) (l .at) (l .at + 64 * s .args .count) (omega arith)
     (fits (c .before .before .before .before .before .before .before)) in (
       omega arith,
-      λ curve. producing-more q (columnsOf q) (full-columns q curve) (length-upTo (q * q)) (length (now (s .args .word)))
-          (s .pre .0 .1 ∙ sym (full-places q curve)) (omega (arith, s .pre .0 .1, short-sizes q (s .pre .0 .0) .points)) (now (s .args .word)) (s .args .count)
-          (now (s .args .grids)) (l .grids) (l .grid) _ _ (l .j) (l .at) (l .inv .1 curve)
+      λ curve. producing-more q (columnsOf q series) (full-columns q series curve) (length-columns q series curve) (length (now (s .args .word)))
+          (s .pre .0 .1 ∙ sym (full-places q series curve)) (omega (arith, s .pre .0 .1, short-sizes q (s .pre .0 .0) .points))
+          (now (s .args .word)) (s .args .count) (now (s .args .grids)) (l .grids) (l .grid) _ _ (l .j) (l .at) (l .inv .1 curve)
           (fits (c .before .before .before .before .before .before .before)) (w .kept .1 .1 .1 .1 .0 ∙ long
-          ∙ omega arith) (w .ensures) (c .times-y .ensures),
+          ∙ omega arith) (w .ensures series) (c .times-y .ensures),
     )
 
 same-length : tie.Need-same-length Inv-loop μ-loop
@@ -127,7 +131,7 @@ returns c =
     let s = c .before .before .before .before .before in
     let l = c .before .loop in
     let e : l .j ≡ s .args .q = le-antisymm (l .inv .0) (c .loop-test .left) in
-    subst (λ (j : ℕ). Products (s .args .q) (columnsOf (s .args .q)) (now (s .args .word)) (s .args .count) (l .grids) j) e
+    subst (λ (j : ℕ). Products (s .args .q) (columnsOf (s .args .q) (s .args .series)) (now (s .args .word)) (s .args .count) (l .grids) j) e
     (l .inv .1 (short-curve _ (s .pre .0 .0)) .done)
 
 pub write-products-spec : {M : Type 1} → statement M

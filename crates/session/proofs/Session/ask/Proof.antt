@@ -14,7 +14,7 @@ abbrev start : (c : tie.After-received-word) → tie.Start
 start c = c .before .before
 
 long : (c : tie.After-received-word) → length (start c .args .self .places) ≡ 64
-long c = sym (length-map (start c .args .self .places) _) ∙ start c .good .0 .1 .1 .1 .1 .0 .1 .0 .1
+long c = sym (length-map (start c .args .self .places) _) ∙ start c .good .0 .1 .1 .1 .1 .1 .0 .1 .0 .1
 
 room : (c : tie.After-received-word) → c .received-word .result .points ≤ length (c .received-word .result .places)
 room c = read-room (start c .args .self) (long c) (c .received-word .result) (c .received-word .ensures)

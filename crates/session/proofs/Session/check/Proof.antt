@@ -11,6 +11,7 @@ use lib.Seq.{length-take-le}
 use Rattle.field.specs.Curve.{isShort, IsShort}
 use Rattle.field.proofs.Curves.{short-curve, short-sizes, short-of-true}
 use Rattle.field.specs.declared.outcome.Outcome.the-variants.{Done}
+use Rattle.points.specs.Series.{isSeries}
 use Rattle.code.specs.Checks.{orderChecks, valueCheck}
 use Rattle.code.proofs.Checks.{order-done}
 use Rattle.session.proofs.Arrivals.{reads, read-room, ValuesChecked, checks-order, checks-value, checks-place, checks-symbol, checks-done}
@@ -20,22 +21,22 @@ use Rattle.session.proofs.Session.check.Tie as tie
 abbrev start : (c : tie.After-received-word) → tie.Start
 start c = c .before .before .before .before .before .before
 
--- what the checks 1 and 2 say
+-- what the checks 1, 17 and 2 say
 said : (c : tie.After-order) → let s = c .before .before .before .args .self in
-    c .order .result ≡ orderChecks (isShort (s .q)) (s .q) (s .m) Done
+    c .order .result ≡ orderChecks (isShort (s .q)) (s .q) (s .series) (s .m) Done
 said c =
     let s = c .before .before .before .args .self in
-    c .order .ensures ∙ ap (λ (t : Bool). orderChecks t (s .q) (s .m) Done) (c .before .before .is-short .ensures)
+    c .order .ensures ∙ ap (λ (t : Bool). orderChecks t (s .q) (s .series) (s .m) Done) (c .before .before .is-short .ensures)
 
--- past the checks 1 and 2
-ordered : (c : tie.After-received-word) → let s = start c .args .self in IsShort (s .q) × (s .m < s .q * s .q * s .q)
+-- past the checks 1, 17 and 2
+ordered : (c : tie.After-received-word) → let s = start c .args .self in IsShort (s .q) × (s .m < s .q * s .q * s .q) × (isSeries (s .series) ≡ true)
 ordered c =
     let s = start c .args .self in
-    let w = order-done (isShort (s .q)) (s .q) (s .m) (sym (said (c .before .before .before)) ∙ c .before .enum-told .given .1) in
-    (short-of-true (s .q) (w .0), w .1)
+    let w = order-done (isShort (s .q)) (s .q) (s .series) (s .m) (sym (said (c .before .before .before)) ∙ c .before .enum-told .given .1) in
+    (short-of-true (s .q) (w .0), w .1, w .2)
 
 long : (c : tie.After-received-word) → length (start c .args .self .places) ≡ 64
-long c = sym (length-map (start c .args .self .places) _) ∙ start c .good .0 .1 .1 .1 .1 .0 .1 .0 .1
+long c = sym (length-map (start c .args .self .places) _) ∙ start c .good .0 .1 .1 .1 .1 .1 .0 .1 .0 .1
 
 room : (c : tie.After-received-word) → c .received-word .result .points ≤ length (c .received-word .result .places)
 room c = read-room (start c .args .self) (long c) (c .received-word .result) (c .received-word .ensures)
@@ -52,6 +53,7 @@ checked c =
     let read = reads s (long (word c)) _ (word c .received-word .ensures) (o .0) in
     record {
       is-block = o .0;
+      is-series = o .2;
       is-n = read .is-n;
       is-Q = read .is-Q;
       order = omega (arith, read .is-n, o .1);

@@ -32,7 +32,7 @@ points c = ap (λ (v : Curve). v .points) (c .at .ensures)
 room : (c : tie.After-at) → curve c .points ≤ length (start c .args .self .places)
 room c =
     let s = start c .args .self in
-    let long : length (s .places) ≡ 64 = sym (length-map (s .places) _) ∙ start c .good .0 .1 .1 .1 .1 .0 .1 .0 .1 in
+    let long : length (s .places) ≡ 64 = sym (length-map (s .places) _) ∙ start c .good .0 .1 .1 .1 .1 .1 .0 .1 .0 .1 in
     omega (arith, points c, short-sizes (s .q) (block c) .points, long)
 
 is-short-requires : tie.Need-is-short-requires

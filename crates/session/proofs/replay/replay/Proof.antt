@@ -28,7 +28,7 @@ returns c =
     let received = c .before .before .before .before in
     let answerOf = received .before in
     let x = answerOf .before .before .before .before .before .before .before .args in
-    replayed-asked (x .q) (x .m) (now (x .places)) (now (x .symbols)) (now (x .rounds)) (now (x .message)) _ (answerOf .before .before .«open» .ensures)
+    replayed-asked (x .q) (x .series) (x .m) (now (x .places)) (now (x .symbols)) (now (x .rounds)) (now (x .message)) _ (answerOf .before .before .«open» .ensures)
     (answerOf .enum-told .given .1) _
     (received .receive .ensures)
     ∙ c .before .before .ask .ensures
@@ -37,7 +37,7 @@ returns-2 : tie.Need-returns-2
 returns-2 c =
     let t = c .before .«open» in
     let x = c .before .before .before .before .before .before .args in
-    replayed-refused (x .q) (x .m) (now (x .places)) (now (x .symbols)) (now (x .rounds)) (now (x .message)) _ (t .ensures) (not-done (t .result .outcome) (c .match .keys2))
+    replayed-refused (x .q) (x .series) (x .m) (now (x .places)) (now (x .symbols)) (now (x .rounds)) (now (x .message)) _ (t .ensures) (not-done (t .result .outcome) (c .match .keys2))
 
 pub replay-spec : {M : Type 1} → statement M
 replay-spec =

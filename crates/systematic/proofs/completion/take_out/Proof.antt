@@ -12,9 +12,7 @@ use Rattle.poly.proofs.Entries.{zeros}
 use Rattle.poly.proofs.Fronts.{lent-long, written-long}
 use Rattle.linear.specs.inner.Combinations.{rowsFrom, Eliminated}
 use Rattle.linear.specs.inner.Eliminating.{marked, Masks}
-use Rattle.points.specs.Points.{columnsOf}
 use Rattle.code.specs.Terms.{size}
-use Rattle.recovery.proofs.GapAnswers.{short-places}
 use Rattle.recovery.proofs.HeavyMarks.{short-half}
 use Rattle.systematic.proofs.TermSystems.{masks, marked-inside, marked-outside, not-solved, pivot-decides}
 use Rattle.systematic.proofs.completion.take_out.Statement.{statement}
@@ -22,7 +20,7 @@ use Rattle.systematic.proofs.completion.take_out.Tie as tie
 
 -- the word fits the array
 few : (s : tie.Start) → length (now (s .args .word)) ≤ 64
-few s = short-places _ _ _ _ (s .pre .0 .0) (s .pre .0 .1) .1
+few s = s .pre .0 .2
 
 -- the marks
 marks-long : (c : tie.After-mark-symbols) → let x = c .before .before .before .before .args in length (c .mark-symbols .last .1 .0 ++ drop (length (now (x .word))) (zeros 64)) ≡ 64
@@ -42,7 +40,7 @@ ended c =
     let e = c .eliminate-short in
     let high = c .before .before .before .before .before .mark-symbols .last .1 .0 ++ drop (length (now (x .word))) (zeros 64) in
     subst (λ (k : ℕ). Eliminated (fieldOf (x .q)) (marked high) 64 k (rowsFrom 64 0 (now (x .words)) (now (x .left))) k (e .result)
-    (rowsFrom 64 k (e .last .1 .1 .1 .0) (e .last .1 .1 .1 .1 .0))) (s .pre .0 .2) (e .ensures .1)
+    (rowsFrom 64 k (e .last .1 .1 .1 .0) (e .last .1 .1 .1 .1 .0))) (s .pre .0 .1) (e .ensures .1)
 
 array-borrow-prefix-high : tie.Need-array-borrow-prefix-high
 array-borrow-prefix-high c = few (c .before .before)
@@ -57,7 +55,7 @@ eliminate-short-requires : tie.Need-eliminate-short-requires
 eliminate-short-requires c κs =
     let s = c .before .before .before .before .before .before .before .before in
     let k = c .before .before .before .before in
-    ((short-half _ (s .pre .0 .1), marks-long k, marks-are k), ((s .pre .1 .0 .0, s .pre .1 .0 .1 .symbols), (s .pre .1 .1 .0, s .pre .1 .1 .1)))
+    ((short-half _ (s .pre .0 .0), marks-long k, marks-are k), (s .pre .1 .0, (s .pre .1 .1 .0, s .pre .1 .1 .1)))
 
 same-length : tie.Need-same-length
 same-length c = search needs
@@ -70,9 +68,10 @@ returns c =
     let k = e .before .before .before .before .before in
     let ys = k .mark-symbols .last .1 .0 in
     let word = now (x .word) in (
-      not-solved (x .q) (columnsOf (x .q)) (x .m) word (s .pre .0 .0) (few s) (now (x .words)) (now (x .left)) (ys ++ drop (length word) (zeros 64)) (s .pre .1 .0 .1) (s .pre .1 .1 .2)
+      λ columns over terms. not-solved (x .q) columns (x .m) word over (few s) (now (x .words)) (now (x .left)) (ys ++ drop (length word) (zeros 64)) terms
+          (s .pre .1 .1 .2)
           (marked-inside word ys (few s) (k .mark-symbols .ensures)) (marked-outside word ys (few s) (k .mark-symbols .ensures)) (e .eliminate-short .result)
-          (e .eliminate-short .last .1 .1 .1 .0) (e .eliminate-short .last .1 .1 .1 .1 .0) (ended e) (omega (arith, s .pre .0 .2, c .if1 .taken)),
+          (e .eliminate-short .last .1 .1 .1 .0) (e .eliminate-short .last .1 .1 .1 .1 .0) (ended e) (omega (arith, s .pre .0 .1, c .if1 .taken)),
       e .eliminate-short .ensures .0 .1,
     )
 
@@ -95,9 +94,10 @@ returns-2 c =
     let k = e .before .before .before .before .before in
     let ys = k .mark-symbols .last .1 .0 in
     let word = now (x .word) in (
-      pivot-decides (x .q) (columnsOf (x .q)) (x .m) word (s .pre .0 .0) (few s) (now (x .words)) (now (x .left)) (ys ++ drop (length word) (zeros 64)) (s .pre .1 .0 .1) (s .pre .1 .1 .2)
+      λ columns over terms. pivot-decides (x .q) columns (x .m) word over (few s) (now (x .words)) (now (x .left)) (ys ++ drop (length word) (zeros 64)) terms
+          (s .pre .1 .1 .2)
           (marked-inside word ys (few s) (k .mark-symbols .ensures)) (marked-outside word ys (few s) (k .mark-symbols .ensures)) (e .eliminate-short .result)
-          (e .eliminate-short .last .1 .1 .1 .0) (e .eliminate-short .last .1 .1 .1 .1 .0) (ended e) (c .pivot .result) (omega (arith, s .pre .0 .2, c .before .before .before .before .if1 .left))
+          (e .eliminate-short .last .1 .1 .1 .0) (e .eliminate-short .last .1 .1 .1 .1 .0) (ended e) (c .pivot .result) (omega (arith, s .pre .0 .1, c .before .before .before .before .if1 .left))
           (marks-long k) (c .pivot .ensures),
       e .eliminate-short .ensures .0 .1,
     )

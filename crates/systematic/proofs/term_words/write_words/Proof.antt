@@ -29,7 +29,7 @@ write-powers-requires : tie.Need-write-powers-requires
 write-powers-requires c κs =
     let s = c .before .before .before .before .before .before in
     let F = fieldOf (s .args .q) in
-    ((s .pre .1 .0, s .pre .1 .2 .xs-symbols, short-not-long (s .args .q) (s .pre .0 .0)), (room (c .before .before), below-zeros (F .size) 1024 (zero-lt F)))
+    ((s .pre .1 .0, s .pre .1 .2, short-not-long (s .args .q) (s .pre .0 .0)), (room (c .before .before), below-zeros (F .size) 1024 (zero-lt F)))
 
 slice-aggregate-write-powers-2 : tie.Need-slice-aggregate-write-powers-2
 slice-aggregate-write-powers-2 c = search needs
@@ -39,7 +39,7 @@ write-powers-requires-2 c κs =
     let s = c .before .before .before .before .before .before .before .before .before in
     let F = fieldOf (s .args .q) in
     let z = short-sizes (s .args .q) (s .pre .0 .0) in
-    ((s .pre .1 .1, s .pre .1 .2 .ys-symbols, short-not-long (s .args .q) (s .pre .0 .0)), (omega (arith, z .high), below-zeros (F .size) 256 (zero-lt F)))
+    ((s .pre .1 .1, s .pre .1 .3, short-not-long (s .args .q) (s .pre .0 .0)), (omega (arith, z .high), below-zeros (F .size) 256 (zero-lt F)))
 
 slice-aggregate-write-products : tie.Need-slice-aggregate-write-products
 slice-aggregate-write-products c = search needs
@@ -60,11 +60,12 @@ same-length : tie.Need-same-length
 same-length c = search needs
 
 returns : tie.Need-returns
-returns c =
+returns c columns room points =
     let s = c .before .before .before .before .before .before .before .before .before .before .before .before .before .before .before .before .before in
     let a = s .args in
-    words-written (a .q) (s .pre .0 .0) (a .m) (a .k) _ (now (a .xs)) (now (a .ys)) _ _ _ (s .pre .0 .2) (c .before .before .before .before .before .before .before .before .before .before .before .before .before .divide .ensures .0) (s .pre .1 .2)
-    (c .before .before .before .before .before .before .before .before .before .before .write-powers .ensures) (c .before .before .before .before .before .before .before .write-powers2 .ensures) (c .before .before .write-products .ensures)
+    words-written (a .q) (s .pre .0 .0) (a .m) (a .k) _ (now (a .xs)) (now (a .ys)) _ _ _ (s .pre .0 .2)
+    (c .before .before .before .before .before .before .before .before .before .before .before .before .before .divide .ensures .0)
+    columns room points (c .before .before .before .before .before .before .before .before .before .before .write-powers .ensures) (c .before .before .before .before .before .before .before .write-powers2 .ensures) (c .before .before .write-products .ensures)
 
 pub write-words-spec : {M : Type 1} → statement M
 write-words-spec =

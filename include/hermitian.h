@@ -1,15 +1,15 @@
 /*
- * Hermitian block code of the strap link: the seven entries that C calls.
+ * Hermitian block code of the strap link: the ten entries that C calls.
  *
  * The library turns a message of k symbols into a word of n symbols (a codeword:
  * values of a polynomial at the n points of a Hermitian curve), or finds the word
  * that has k given symbols at k chosen places; it reads whole words back, recovers
  * messages from words with missing symbols, mends whole words with wrong symbols,
- * and turns words of one strap series into words of the other. It is written and
- * proved in Rattle: on memory lent as described under "Memory" below, every call
- * returns, stays within its buffers and gives the one answer of the rules. Only
- * hermitian_mend corrects wrong symbols; unencode and the two recoveries say when no
- * message fits.
+ * and turns words of one strap series into words of the other. It encodes, reads and
+ * recovers short blocks of some columns alone, too. It is written and proved in
+ * Rattle: on memory lent as described under "Memory" below, every call returns, stays
+ * within its buffers and gives the one answer of the rules. Only hermitian_mend
+ * corrects wrong symbols; the calls that unencode or recover say when no message fits.
  *
  *   q   blocks         n, length of a word   symbols     order m
  *   2   short            8                   0 to 3      0 to 7
@@ -23,8 +23,8 @@
  *
  * hermitian_encode, hermitian_unencode and hermitian_convert take all three q. Long
  * blocks are recovered by hermitian_recover_long, which takes no q and is lent memory
- * to work in; hermitian_encode_at, hermitian_recover and hermitian_mend take short
- * blocks only and refuse q = 8.
+ * to work in; the other six, hermitian_encode_at, hermitian_recover, hermitian_mend
+ * and those on chosen columns, take short blocks only and refuse q = 8.
  *
  * Series. The places of a word are the points of the curve, column by column, the q
  * points of a column by y ascending. A column has one x, and each strap series lists
@@ -34,9 +34,18 @@
  *   2   x = 0, then the powers of z, the symbol 2, from the power 0 on; for q = 4
  *       that is 0 1 2 4 8 3 6 12 11 5 10 7 14 15 13 9
  *
- * For q = 2 these are the same list. Each call names the series, 1 or 2, of its places
- * and words; messages have none. hermitian_convert turns a word of one series into that
- * of the other.
+ * For q = 2 these are the same list. Each call but those on chosen columns names the
+ * series, 1 or 2, of its places and words; messages have none. hermitian_convert turns a
+ * word of one series into that of the other.
+ *
+ * Chosen columns. A junior strap sends fewer symbols. hermitian_encode_on,
+ * hermitian_unencode_on and hermitian_recover_on take a list of c values x, at least one
+ * and strictly ascending, and work on these columns only. For them n is q * c, places are
+ * counted anew from 0, q * i + j being point j of column columns[i], and m must be below
+ * this n; k is that of q and m as ever. No series is named. The word is what
+ * hermitian_encode writes in these columns with series 1, and the full list, 0, 1, 2 and
+ * so on up to q * q - 1, gives what the plain calls give with series 1. m + 1 symbols are
+ * always enough here too, for every list of columns.
  *
  * An m of n or more, up to 65535, is refused. Earlier m was a uint8_t and no series was
  * named: a value up to 255 means what it meant, and series 1 gives what the calls gave,
@@ -80,25 +89,25 @@ extern "C" {
 #endif
 
 /* Stands for a missing symbol; allowed in the words of hermitian_recover,
-   hermitian_recover_long and hermitian_convert only. */
+   hermitian_recover_long, hermitian_recover_on and hermitian_convert only. */
 #define HERMITIAN_MISSING 255
 
 /* The bytes that hermitian_recover_long is lent to work in. */
 #define HERMITIAN_WORK_LENGTH 262144
 
 /*
- * Why a call was refused. The checks run in this order, only 17 comes right after 1,
- * 12 and 15 right after 2 and 14 right after 5, and the first that applies decides. 6
- * and 7 belong to receiving sessions and 13 to the field's inverse, which C doesn't
- * call; the entries below never give them. 8 no longer occurs.
+ * Why a call was refused. The checks run in this order, only 17 or 18 comes right
+ * after 1, 12 and 15 right after 2 and 14 right after 5, and the first that applies
+ * decides. 6 and 7 belong to receiving sessions and 13 to the field's inverse, which C
+ * doesn't call; the entries below never give them. 8 no longer occurs.
  */
 enum hermitian_refusal {
     HERMITIAN_DONE = 0,
-    /* q is none of 2, 4 and 8; for encode_at, recover and mend: q is neither 2 nor
-       4. */
+    /* q is none of 2, 4 and 8; for encode_at, recover, mend and the calls on chosen
+       columns: q is neither 2 nor 4. */
     HERMITIAN_UNKNOWN_CURVE = 1,
     /* m is n or more: above 7 (q = 2), 63 (q = 4) or 511 (long blocks), up to
-       65535. */
+       65535; on c chosen columns: q * c or more. */
     HERMITIAN_ORDER_TOO_HIGH = 2,
     /* The input isn't as long as it must be: k for a message and for the symbols of
        encode_at, n for a word. */
@@ -117,7 +126,7 @@ enum hermitian_refusal {
     HERMITIAN_NO_MESSAGE_FITS = 9,
     /* Too much is missing: two or more messages fit. Second number: r, where
        exactly (q * q) to the power r messages fit, 64 to the power r for a long
-       block. Only from recover and recover_long. */
+       block. Only from recover, recover_long and recover_on. */
     HERMITIAN_SEVERAL_MESSAGES_FIT = 10,
     /* No codeword differs from the word in at most t places. Only from mend. */
     HERMITIAN_NO_CODEWORD_NEAR = 11,
@@ -133,8 +142,12 @@ enum hermitian_refusal {
     /* The places don't fix the codeword: two codewords agree on all of them,
        whichever symbols come along. Only from encode_at, last. */
     HERMITIAN_PLACES_LEAVE_SEVERAL = 16,
-    /* The series is neither 1 nor 2. After 1; the first check of recover_long. */
-    HERMITIAN_BAD_SERIES = 17
+    /* The series is neither 1 nor 2. After 1; the first check of recover_long. The
+       calls on chosen columns name none. */
+    HERMITIAN_BAD_SERIES = 17,
+    /* The list of columns is empty, or not strictly ascending, or holds a value of
+       q * q or more. Only from the calls on chosen columns, after 1. */
+    HERMITIAN_BAD_COLUMNS = 18
 };
 
 /* Writes the word of a message: message_length must be k, word_length n. */
@@ -195,18 +208,38 @@ uint32_t hermitian_convert(uint8_t q, uint8_t series,
                            const uint8_t *word, size_t word_length,
                            uint8_t *out, size_t out_length);
 
+/* Writes the word of a message on chosen columns: message_length must be k,
+   word_length q * count. */
+uint32_t hermitian_encode_on(uint8_t q, const uint8_t *columns, size_t count, uint16_t m,
+                             const uint8_t *message, size_t message_length,
+                             uint8_t *word, size_t word_length);
+
+/* Writes the message of a whole word on chosen columns: word_length must be q * count,
+   message_length k. HERMITIAN_MISSING counts as a bad value here. */
+uint32_t hermitian_unencode_on(uint8_t q, const uint8_t *columns, size_t count, uint16_t m,
+                               const uint8_t *word, size_t word_length,
+                               uint8_t *message, size_t message_length);
+
+/* Writes the only message that fits a word on chosen columns in which HERMITIAN_MISSING
+   stands at each missing place: word_length must be q * count, message_length k. */
+uint32_t hermitian_recover_on(uint8_t q, const uint8_t *columns, size_t count, uint16_t m,
+                              const uint8_t *word, size_t word_length,
+                              uint8_t *message, size_t message_length);
+
 /* What a call returned is 0 if it was done; otherwise it is the refusal number
    times 65536 plus the second number, which is 0 unless said above. */
 static inline unsigned hermitian_number(uint32_t answer) { return (unsigned)(answer >> 16); }
 static inline unsigned hermitian_second(uint32_t answer) { return (unsigned)(answer & 0xFFFFu); }
 
-/* n, the length of a word; 0 if q names no curve. */
+/* n, the length of a word of all columns; 0 if q names no curve. On chosen columns n is
+   q * count. */
 static inline size_t hermitian_word_length(uint8_t q) {
     return q == 2 || q == 4 || q == 8 ? (size_t)q * q * q : 0;
 }
 
 /* k, the length of a message: the number of terms x^i * y^j with j below q and
-   weight q * i + (q + 1) * j up to m; 0 if q or m would be refused. */
+   weight q * i + (q + 1) * j up to m; 0 if q or m would be refused on all columns. On
+   chosen columns k is the same, and m below q * count. */
 static inline size_t hermitian_message_length(uint8_t q, uint16_t m) {
     size_t length = 0;
     size_t weight_of_y_part;

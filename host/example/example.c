@@ -1,13 +1,14 @@
 /* One message on its way: encoded, partly lost, recovered, and with wrong symbols
  * mended; then what a refusal looks like; then a payload that can be read without a
- * decoder; then a block of a series 2 strap; then a long block. Returns 1 if anything
- * isn't as it should be. */
+ * decoder; then a block of a series 2 strap; then a short block from chosen columns of
+ * a junior strap; then a long block. Returns 1 if anything isn't as it should be. */
 #include <stdio.h>
 #include <string.h>
 
 #include "hermitian.h"
 
 enum { Q = 4, SERIES = 1, M = 37, K = 32, N = 64 };
+enum { JUNIOR_COLUMNS = 8, JUNIOR_M = 17, JUNIOR_K = 12, JUNIOR_N = 32 };
 enum { LONG_Q = 8, LONG_M = 300, LONG_K = 273, LONG_N = 512 };
 
 static int failures = 0;
@@ -42,7 +43,7 @@ static void explain(uint32_t answer) {
         puts("  refused: the curve number must be 2 or 4, or 8 for a long block");
         break;
     case HERMITIAN_ORDER_TOO_HIGH:
-        puts("  refused: the order is too high for this curve");
+        puts("  refused: the order is too high for this curve or these columns");
         break;
     case HERMITIAN_WRONG_INPUT_LENGTH:
         puts("  refused: the input has the wrong length");
@@ -77,6 +78,9 @@ static void explain(uint32_t answer) {
     case HERMITIAN_BAD_SERIES:
         puts("  refused: the series must be 1 or 2");
         break;
+    case HERMITIAN_BAD_COLUMNS:
+        puts("  refused: the columns must be at least one, ascending and below q * q");
+        break;
     default:
         printf("  refused: number %u, which this program doesn't know\n",
                hermitian_number(answer));
@@ -89,11 +93,11 @@ static void make_message(uint8_t message[K]) {
     }
 }
 
-/* Loses the first `count` of the places 0, 5, 10, ..., which come to every
- * place once, since 5 and 64 share no factor. */
-static void lose(uint8_t word[N], size_t count) {
+/* Loses the first `count` of the places 0, 5, 10, ..., which come to every place once,
+ * since 5 shares no factor with the lengths here, 32, 64 and 512. */
+static void lose(uint8_t *word, size_t length, size_t count) {
     for (size_t i = 0; i < count; i++) {
-        word[5 * i % N] = HERMITIAN_MISSING;
+        word[5 * i % length] = HERMITIAN_MISSING;
     }
 }
 
@@ -118,7 +122,7 @@ static void lose_and_recover(const uint8_t message[K], const uint8_t word[N]) {
     uint8_t broken[N];
     uint8_t read[K] = {0};
     memcpy(broken, word, N);
-    lose(broken, 26);
+    lose(broken, N, 26);
     show("arrived:  ", broken, N);
     expect(hermitian_recover(Q, SERIES, M, broken, N, read, K) == HERMITIAN_DONE,
            "the message is recovered with 26 symbols missing");
@@ -158,7 +162,7 @@ static void refuse(const uint8_t word[N]) {
     memcpy(broken, word, N);
     memset(read, 0xAA, K);
     memset(untouched, 0xAA, K);
-    lose(broken, 40);
+    lose(broken, N, 40);
     show("arrived:  ", broken, N);
     uint32_t answer = hermitian_recover(Q, SERIES, M, broken, N, read, K);
     explain(answer);
@@ -233,7 +237,7 @@ static void send_in_clear(const uint8_t payload[K]) {
     expect(memcmp(read, payload, K) == 0, "the payload is read without a decoder");
 
     memcpy(again, word, N);
-    lose(again, 26);
+    lose(again, N, 26);
     show("arrived:  ", again, N);
     expect(hermitian_recover(Q, SERIES, M, again, N, message, K) == HERMITIAN_DONE &&
                hermitian_encode(Q, SERIES, M, message, K, again, N) == HERMITIAN_DONE &&
@@ -283,7 +287,7 @@ static void send_from_series_2(const uint8_t message[K], const uint8_t word_of_s
     expect(memcmp(converted, word_of_series_1, N) == 0,
            "the symbols are those of encoding in series 1");
 
-    lose(sent, 26);
+    lose(sent, N, 26);
     show("series 2: ", sent, N);
     expect(hermitian_convert(Q, 2, sent, N, converted, N) == HERMITIAN_DONE,
            "the word is converted with 26 symbols missing");
@@ -300,16 +304,81 @@ static void send_from_series_2(const uint8_t message[K], const uint8_t word_of_s
     expect(memcmp(before, converted, N) == 0, "the refusal left the word as it was");
 }
 
+/* The columns that a junior strap sends. Any eight would do. */
+static const uint8_t CHOSEN[JUNIOR_COLUMNS] = {0, 2, 3, 5, 8, 9, 12, 15};
+
+/* The word is a part of the message's word on all columns. */
+static int is_part_of_whole_word(const uint8_t message[JUNIOR_K], const uint8_t word[JUNIOR_N]) {
+    uint8_t whole[N] = {0};
+    uint32_t answer = hermitian_encode(Q, 1, JUNIOR_M, message, JUNIOR_K, whole, N);
+    for (size_t i = 0; i < JUNIOR_COLUMNS; i++) {
+        if (memcmp(word + Q * i, whole + Q * CHOSEN[i], Q) != 0) {
+            return 0;
+        }
+    }
+    return answer == HERMITIAN_DONE;
+}
+
+static uint32_t recover_on_chosen(const uint8_t word[JUNIOR_N], uint8_t read[JUNIOR_K]) {
+    memset(read, 0xAA, JUNIOR_K);
+    return hermitian_recover_on(Q, CHOSEN, JUNIOR_COLUMNS, JUNIOR_M, word, JUNIOR_N, read,
+                                JUNIOR_K);
+}
+
+static void refuse_columns(const uint8_t message[JUNIOR_K]) {
+    static const uint8_t twice[JUNIOR_COLUMNS] = {0, 2, 3, 3, 8, 9, 12, 15};
+    uint8_t word[JUNIOR_N];
+    uint8_t untouched[JUNIOR_N];
+    memset(word, 0xAA, JUNIOR_N);
+    memset(untouched, 0xAA, JUNIOR_N);
+    uint32_t answer = hermitian_encode_on(Q, twice, JUNIOR_COLUMNS, JUNIOR_M, message, JUNIOR_K,
+                                          word, JUNIOR_N);
+    explain(answer);
+    expect(hermitian_number(answer) == HERMITIAN_BAD_COLUMNS && hermitian_second(answer) == 0,
+           "no column can be named twice");
+
+    answer = hermitian_encode_on(Q, CHOSEN, 4, JUNIOR_M, message, JUNIOR_K, word, JUNIOR_N);
+    explain(answer);
+    expect(hermitian_number(answer) == HERMITIAN_ORDER_TOO_HIGH,
+           "an order of 17 is too high for the 16 points of four columns");
+    expect(memcmp(word, untouched, JUNIOR_N) == 0, "the refusals wrote nothing");
+}
+
+static void send_from_junior_strap(const uint8_t message[JUNIOR_K]) {
+    uint8_t word[JUNIOR_N] = {0};
+    uint8_t read[JUNIOR_K] = {0};
+    expect(hermitian_message_length(Q, JUNIOR_M) == JUNIOR_K,
+           "a message of order 17 has 12 symbols");
+    show("columns:  ", CHOSEN, JUNIOR_COLUMNS);
+    show("message:  ", message, JUNIOR_K);
+    uint32_t answer = hermitian_encode_on(Q, CHOSEN, JUNIOR_COLUMNS, JUNIOR_M, message, JUNIOR_K,
+                                          word, JUNIOR_N);
+    expect(answer == HERMITIAN_DONE, "the message is encoded on eight columns");
+    show("word:     ", word, JUNIOR_N);
+    expect(is_part_of_whole_word(message, word),
+           "its word is that of a whole block in these columns");
+    answer = hermitian_unencode_on(Q, CHOSEN, JUNIOR_COLUMNS, JUNIOR_M, word, JUNIOR_N, read,
+                                   JUNIOR_K);
+    expect(answer == HERMITIAN_DONE && memcmp(read, message, JUNIOR_K) == 0,
+           "the word is unencoded");
+
+    lose(word, JUNIOR_N, JUNIOR_N - JUNIOR_M - 1);
+    show("arrived:  ", word, JUNIOR_N);
+    expect(recover_on_chosen(word, read) == HERMITIAN_DONE && memcmp(read, message, JUNIOR_K) == 0,
+           "the message is recovered from 18 symbols, one more than the order");
+
+    lose(word, JUNIOR_N, JUNIOR_N - JUNIOR_K + 1);
+    show("arrived:  ", word, JUNIOR_N);
+    answer = recover_on_chosen(word, read);
+    explain(answer);
+    expect(hermitian_number(answer) == HERMITIAN_SEVERAL_MESSAGES_FIT &&
+               hermitian_second(answer) == 1,
+           "11 symbols leave one of 12 open");
+    refuse_columns(message);
+}
+
 /* The memory that long blocks are recovered in, too large for some stacks. */
 static uint8_t work[HERMITIAN_WORK_LENGTH];
-
-/* Loses the first `count` of the places 0, 5, 10, ..., as above: 5 and 512 share no
- * factor either. */
-static void lose_of_long_block(uint8_t word[LONG_N], size_t count) {
-    for (size_t i = 0; i < count; i++) {
-        word[5 * i % LONG_N] = HERMITIAN_MISSING;
-    }
-}
 
 static uint32_t recover_long_block(const uint8_t word[LONG_N], uint8_t read[LONG_K]) {
     memset(read, 0xAA, LONG_K);
@@ -334,7 +403,7 @@ static void lose_and_recover_long_block(void) {
     expect(answer == HERMITIAN_DONE && memcmp(read, message, LONG_K) == 0,
            "the long word is unencoded");
 
-    lose_of_long_block(word, 211);
+    lose(word, LONG_N, 211);
     expect(recover_long_block(word, read) == HERMITIAN_DONE && memcmp(read, message, LONG_K) == 0,
            "the long message is recovered with 211 symbols missing");
 
@@ -347,7 +416,7 @@ static void lose_and_recover_long_block(void) {
     expect(hermitian_number(answer) == HERMITIAN_UNKNOWN_CURVE,
            "plain recovery takes short blocks only");
 
-    lose_of_long_block(word, 300);
+    lose(word, LONG_N, 300);
     answer = recover_long_block(word, read);
     explain(answer);
     expect(hermitian_number(answer) == HERMITIAN_SEVERAL_MESSAGES_FIT &&
@@ -369,6 +438,7 @@ int main(void) {
     refuse(word);
     send_in_clear(message);
     send_from_series_2(message, word);
+    send_from_junior_strap(message);
     lose_and_recover_long_block();
     puts(failures == 0 ? "all as expected" : "SOMETHING FAILED");
     return failures == 0 ? 0 : 1;

@@ -317,6 +317,45 @@ fn encode_at_case(record: [u8; 160]) {
     );
 }
 
+fn run_on_columns(
+    op: u8,
+    q: u8,
+    columns: &[u8],
+    m: u16,
+    input: &[u8],
+    output: &mut [u8],
+) -> Outcome {
+    match op {
+        b'X' => chosen_columns::encode_on(q, columns, m, input, output),
+        b'U' => chosen_columns::unencode_on(q, columns, m, input, output),
+        _ => chosen_columns::recover_on(q, columns, m, input, output),
+    }
+}
+
+fn columns_answer(op: u8, q: u8, columns: &[u8], m: u16, input: &[u8], output: &mut [u8]) {
+    let outcome = run_on_columns(op, q, columns, m, input, output);
+    print_answer(op, outcome);
+    print_values(output, b'\n');
+}
+
+// The columns stand where other records have the output slice, whose bytes are all that of byte 7. They are lent from a copy.
+fn columns_case(record: [u8; 160]) {
+    let listed = record;
+    let mut output = [record[7]; 72];
+    let m = order(record);
+    let input_end = 8 + room(record[3] as usize);
+    let columns_end = 80 + room(record[4] as usize);
+    let output_end = room(record[5] as usize);
+    columns_answer(
+        record[0],
+        record[1],
+        &listed[80..columns_end],
+        m,
+        &record[8..input_end],
+        &mut output[..output_end],
+    );
+}
+
 // Runs a case of no job at the current session and answers the one after it.
 fn run_case(session: Session, record: [u8; 160]) -> Session {
     match record[0] {
@@ -339,6 +378,10 @@ fn run_case(session: Session, record: [u8; 160]) -> Session {
         }
         b'E' => {
             encode_at_case(record);
+            session
+        }
+        b'X' | b'U' | b'R' => {
+            columns_case(record);
             session
         }
         _ => {

@@ -1,7 +1,7 @@
--- The converter's loop: what a turn leaves, and that all turns leave the word in the order of the other series.
+-- Columns that are moved: what a turn of the loop leaves, and that all turns of the converter leave the word in the order of the other series.
 -- Assumes nothing.
 use mathlib.Core.List.{List}
-use mathlib.Core.Path.{_≡_, sym, ap, _∙_}
+use mathlib.Core.Path.{_≡_, refl, sym, ap, _∙_}
 use Prim.Native.Nat.{ℕ, _+_, _-_, _*_, _/_, _%_, _≤_, _<_}
 use native.Mathlib.Decide.{ℕ-discrete, decLt}
 use native.Mathlib.Nat.{div-add-mod}
@@ -21,7 +21,7 @@ use Rattle.points.specs.Series.{otherSeries, columnsOf}
 use Rattle.points.specs.inner.Columns.{Columns}
 use Rattle.points.proofs.Series.{full-columns, length-columns, every-column, crossed}
 use Rattle.code.specs.Converted.{relisted}
-use Rattle.code.specs.inner.Moving.{Moved}
+use Rattle.code.specs.inner.Moving.{Within, Moved}
 use Rattle.code.proofs.FullColumns.{full-points}
 use Rattle.code.proofs.Conversions.{length-relisted, relisted-at}
 
@@ -29,18 +29,20 @@ use Rattle.code.proofs.Conversions.{length-relisted, relisted-at}
 pub part-fits : (q : ℕ) (columns : List ℕ) → Columns q columns → (t : ℕ) → t < length columns → q * getD columns t 0 + q ≤ q * q * q
 part-fits q columns h t l = omega (arith, block-fits q (getD columns t 0) (q * q) (h .small t l), sizes q (h .curve) .grid)
 
-pub moved-none : (q : ℕ) (from to word out : List ℕ) → length out ≡ q * q * q → Moved q from to word out 0
-moved-none q from to word out long = record { long = long; at = λ t s k l. absurd (omega arith) }
+pub moved-none : (q : ℕ) (from to word out : List ℕ) → length out ≡ q * q * q → Moved q from to word out out 0
+moved-none q from to word out long = record { long = long; at = λ t s k l. absurd (omega arith); kept = λ x s l d. refl }
 
 -- one column more
-pub moved-more : (q : ℕ) (from to word out last : List ℕ) (n : ℕ) → Columns q to → n < length to
-    → Moved q from to word out n
+pub moved-more : (q : ℕ) (from to word out₀ out last : List ℕ) (n : ℕ) → Columns q to → n < length to
+    → Moved q from to word out₀ out n
     → last ≡ stored q (part word (q * getD from n 0) (q * getD from n 0 + q)) (part out (q * getD to n 0) (q * getD to n 0 + q))
-    → Moved q from to word (putMid (q * getD to n 0) (q * getD to n 0 + q - q * getD to n 0) out last) (n + 1)
-moved-more q from to word out last n h fits moved e =
+    → Moved q from to word out₀ (putMid (q * getD to n 0) (q * getD to n 0 + q - q * getD to n 0) out last) (n + 1)
+moved-more q from to word out₀ out last n h fits moved e =
     record {
       long = ap length as-put ∙ length-put out a (a + q) last ordered room long ∙ moved .long;
       at = λ t s k l. ap (λ (x : List ℕ). getD x (q * getD to t 0 + s) 0) as-put ∙ go t s k l (ℕ-discrete t n);
+      kept = λ x s l d. ap (λ (y : List ℕ). getD y (q * x + s) 0) as-put ∙ aside x s l (λ f. d n (omega arith) (sym f))
+          ∙ moved .kept x s l (λ t k. d t (omega arith));
     }
   where
     a : ℕ
@@ -61,16 +63,14 @@ moved-more q from to word out last n h fits moved e =
     as-put : putMid a (a + q - a) out last ≡ put out a (a + q) last
     as-put = put-is out a (a + q) last ordered
 
-    other : (t s : ℕ) → t < n → s < q → Dec (getD to t 0 < getD to n 0)
-        → getD (put out a (a + q) last) (q * getD to t 0 + s) 0 ≡ getD out (q * getD to t 0 + s) 0
-    other t s k l (yes b) =
-        put-low out a (a + q) last ordered room long (q * getD to t 0 + s) (omega (arith, block-fits q (getD to t 0) (getD to n 0) b))
-    other t s k l (no d) =
-        let b : getD to n 0 < getD to t 0 = elim (ℕ-discrete (getD to t 0) (getD to n 0)) [
-          | yes f ↦ absurd (omega (arith, nodup-getD to 0 (h .distinct) t n (omega arith) fits f))
-          | no f ↦ omega arith
-        ] in
-        put-high out a (a + q) last ordered room long (q * getD to t 0 + s) (omega (arith, block-fits q (getD to n 0) (getD to t 0) b))
+    -- another column is as it was
+    aside : (x s : ℕ) → s < q → (x ≡ getD to n 0 → ⊥) → getD (put out a (a + q) last) (q * x + s) 0 ≡ getD out (q * x + s) 0
+    aside x s l d = elim (decLt x (getD to n 0)) [
+      | yes b ↦ put-low out a (a + q) last ordered room long (q * x + s) (omega (arith, block-fits q x (getD to n 0) b))
+      | no b ↦
+          let more : getD to n 0 < x = omega arith in
+          put-high out a (a + q) last ordered room long (q * x + s) (omega (arith, block-fits q (getD to n 0) x more))
+    ]
 
     go : (t s : ℕ) → t < n + 1 → s < q → Dec (t ≡ n) → getD (put out a (a + q) last) (q * getD to t 0 + s) 0 ≡ getD word (q * getD from t 0 + s) 0
     go t s k l (yes f) =
@@ -78,7 +78,9 @@ moved-more q from to word out last n h fits moved e =
         (put-in out a (a + q) last ordered room long s (omega arith) ∙ ap (λ (x : List ℕ). getD x s 0) e
         ∙ stored-in q _ (part out a (a + q)) s l (omega (arith, part-long))
         ∙ part-at word (q * getD from n 0) (q * getD from n 0 + q) s (omega arith))
-    go t s k l (no d) = let b : t < n = omega arith in other t s b l (decLt (getD to t 0) (getD to n 0)) ∙ moved .at t s b l
+    go t s k l (no d) =
+        let b : t < n = omega arith in
+        aside (getD to t 0) s l (λ f. d (nodup-getD to 0 (h .distinct) t n (omega arith) fits f)) ∙ moved .at t s b l
 
 -- all columns, of the other series and of this one
 module _ (q series : ℕ) (curve : IsCurve q) where
@@ -91,8 +93,8 @@ module _ (q series : ℕ) (curve : IsCurve q) where
   abbrev G : List ℕ
   G = columnsOf q other
 
-  all-moved : (word out : List ℕ) → Moved q G F word out (length G) → out ≡ relisted q F G word
-  all-moved word out moved = ext-getD 0 out v (moved .long ∙ sym (length-relisted q F G word ∙ full-points q other curve)) same
+  all-moved : (word out₀ out : List ℕ) → Moved q G F word out₀ out (length G) → out ≡ relisted q F G word
+  all-moved word out₀ out moved = ext-getD 0 out v (moved .long ∙ sym (length-relisted q F G word ∙ full-points q other curve)) same
     where
       v : List ℕ
       v = relisted q F G word
@@ -116,10 +118,10 @@ module _ (q series : ℕ) (curve : IsCurve q) where
 
   -- as the code has them
   module _ (from to : List ℕ) (is-from : from ≡ G) (is-to : to ≡ F) where
-    pub movable : Columns q from × Columns q to × (length to ≡ length from)
-    movable =
+    pub movable : (word : List ℕ) → length word ≡ q * q * q → Within q from word × Columns q to × (length to ≡ length from)
+    movable word long =
         rw (is-from, is-to)
-        (full-columns q other curve, full-columns q series curve, length-columns q series curve ∙ sym (length-columns q other curve))
+        (λ t l. omega (arith, part-fits q G (full-columns q other curve) t l), full-columns q series curve, length-columns q series curve ∙ sym (length-columns q other curve))
 
-    pub moved-all : (word out : List ℕ) → Moved q from to word out (length from) → out ≡ relisted q F G word
-    moved-all word out moved = all-moved word out (rw (is-from, is-to) at moved)
+    pub moved-all : (word out₀ out : List ℕ) → Moved q from to word out₀ out (length from) → out ≡ relisted q F G word
+    moved-all word out₀ out moved = all-moved word out₀ out (rw (is-from, is-to) at moved)

@@ -1,23 +1,23 @@
 // Words from one strap series to the other.
 ghost use mathlib.Core.Path.{_≡_};
-ghost use Prim.Native.Nat.{_*_};
+ghost use Prim.Native.Nat.{_*_, _≤_};
 ghost use lib.ListN.{length};
 ghost use Rattle.field.specs.Curve.{IsShort};
 ghost use Rattle.points.specs.Series.{otherSeries, columnsOf};
 ghost use Rattle.points.specs.inner.Columns.{Columns};
 ghost use Rattle.code.specs.Answers.{answered};
 ghost use Rattle.code.specs.Converted.{convertChecks, relisted, converted};
-ghost use Rattle.code.specs.inner.Moving.{Moved};
+ghost use Rattle.code.specs.inner.Moving.{Within, Moved};
 use crate::check;
 use field::Curve;
 use field::Outcome;
 use poly::rows;
 
 // Writes the column number from[t] of a word as the column number to[t] of another, for each t.
-fn move_columns(q: u8, from: &[u8], to: &[u8], word: &[u8], out: &mut [u8])
-    requires { ⌜ Columns q (now from) × Columns q (now to) × (length (now to) ≡ length (now from)) ⌝ }
-    requires { ⌜ (length (now word) ≡ q * q * q) × (length (now out) ≡ q * q * q) ⌝ }
-    ensures { λ _. ⌜ Moved q (now (from .entry)) (now (to .entry)) (now (word .entry)) (now (out .exit)) (length (now (from .entry))) ⌝ }
+pub fn move_columns(q: u8, from: &[u8], to: &[u8], word: &[u8], out: &mut [u8])
+    requires { ⌜ Within q (now from) (now word) × Columns q (now to) × (length (now to) ≡ length (now from)) ⌝ }
+    requires { ⌜ (length (now word) ≤ q * q * q) × (length (now out) ≡ q * q * q) ⌝ }
+    ensures { λ _. ⌜ Moved q (now (from .entry)) (now (to .entry)) (now (word .entry)) (now (out .entry)) (now (out .exit)) (length (now (from .entry))) ⌝ }
 {
     let width = q as usize;
     let mut t = 0;

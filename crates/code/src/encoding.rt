@@ -104,7 +104,18 @@ fn evaluate_short_columns(q: u8, columns: &[u8], rows: &[u8], word: &mut [u8])
     evaluate_columns(q, &all, columns, rows, word);
 }
 
-// The word of a short block's message. Each stage is a function with its own array, and the two arrays share their room.
+// The word of a short block's message over a list of columns. Each stage is a function with its own array, and the two arrays share their
+// room.
+pub fn write_word_over(q: u8, columns: &[u8], m: usize, message: &[u8], word: &mut [u8])
+    requires { ⌜ Encodable q (now columns) m (now message) (now word) × IsShort q ⌝ }
+    ensures { λ _. ⌜ now (word .exit) ≡ wordOf q (now (columns .entry)) m (now (message .entry)) ⌝ }
+{
+    let mut rows = [0u8; 64];
+    evaluate_message(q, columns, m, message, &mut rows);
+    evaluate_short_columns(q, columns, &rows, word);
+}
+
+// The word of a short block's message, over all columns.
 pub fn write_word(q: u8, series: u8, m: usize, message: &[u8], word: &mut [u8])
     requires { ⌜ Encodable q (columnsOf q series) m (now message) (now word) × IsShort q ⌝ }
     ensures { λ _. ⌜ now (word .exit) ≡ wordOf q (columnsOf q series) m (now (message .entry)) ⌝ }
@@ -112,9 +123,7 @@ pub fn write_word(q: u8, series: u8, m: usize, message: &[u8], word: &mut [u8])
     let columns = points::columns(q, series);
     let width = q as usize;
     let c = width * width;
-    let mut rows = [0u8; 64];
-    evaluate_message(q, &columns[..c], m, message, &mut rows);
-    evaluate_short_columns(q, &columns[..c], &rows, word);
+    write_word_over(q, &columns[..c], m, message, word);
 }
 
 // Both stages over sixteen columns at most: n coefficients of each y^j's polynomial are in the grid.

@@ -3,6 +3,8 @@ ghost use mathlib.Core.Path.{_≡_};
 ghost use Prim.Native.Nat.{ℕ, _*_, _≤_, _<_};
 ghost use lib.ListN.{length, getD};
 ghost use Rattle.field.specs.Curve.{IsCurve, IsShort};
+ghost use Rattle.field.proofs.Fields.{fieldOf};
+ghost use Rattle.poly.specs.inner.Interpolation.{VanishingTree};
 ghost use Rattle.points.specs.Series.{columnsOf};
 ghost use Rattle.points.specs.inner.Columns.{PaddedYs};
 ghost use Rattle.code.specs.Terms.{size};
@@ -53,7 +55,22 @@ fn interpolate_in_y(q: u8, columns: &[u8], word: &[u8], work: &mut [u8])
     }
 }
 
-// The grid of a short block's word, in the front of zeros. The tree is assigned, since one picked by an expression has room twice.
+// The grid of a short block's word over a list of columns, whose tree of vanishing polynomials is given, in the front of zeros.
+pub fn interpolate_over(q: u8, columns: &[u8], tree: &[u8], word: &[u8]) -> [u8; 64]
+    requires { ⌜ WordOver q (now columns) (now word) × IsShort q × (1 ≤ length (now columns)) ⌝ }
+    requires { ⌜ VanishingTree (fieldOf q) (now columns) (now tree) ⌝ }
+    ensures { λ r. ⌜ GridInFront q (now (columns .entry)) (now (word .entry)) r × (length r ≡ 64) ⌝ }
+{
+    let end = 16 * columns.len();
+    let mut work = [0u8; 256];
+    interpolate_in_y(q, columns, word, &mut work[..end]);
+    interpolation::interpolate(q, q as usize, columns, tree, &mut work[..end]);
+    let mut r = [0u8; 64];
+    rows::copy(word.len(), &work, &mut r);
+    r
+}
+
+// The same over all columns. The tree is assigned, since one picked by an expression has room twice.
 pub fn interpolate_short(q: u8, series: u8, word: &[u8]) -> [u8; 64]
     requires { ⌜ WordOver q (columnsOf q series) (now word) × IsShort q ⌝ }
     ensures { λ r. ⌜ GridInFront q (columnsOf q series) (now (word .entry)) r × (length r ≡ 64) ⌝ }
@@ -67,13 +84,7 @@ pub fn interpolate_short(q: u8, series: u8, word: &[u8]) -> [u8; 64]
     let columns = points::columns(q, series);
     let width = q as usize;
     let c = width * width;
-    let end = 16 * c;
-    let mut work = [0u8; 256];
-    interpolate_in_y(q, &columns[..c], word, &mut work[..end]);
-    interpolation::interpolate(q, width, &columns[..c], &tree, &mut work[..end]);
-    let mut r = [0u8; 64];
-    rows::copy(word.len(), &work, &mut r);
-    r
+    interpolate_over(q, &columns[..c], &tree, word)
 }
 
 // The grid of a long block's word.
@@ -92,7 +103,7 @@ pub fn interpolate_long(series: u8, word: &[u8]) -> [u8; 512]
 }
 
 // The message of a grid, if it has no coefficient of a weight above m.
-fn read_grid(q: u8, m: usize, grid: &[u8], message: &mut [u8]) -> Outcome
+pub fn read_grid(q: u8, m: usize, grid: &[u8], message: &mut [u8]) -> Outcome
     requires { ⌜ IsCurve q × (m < length (now grid)) × (length (now grid) ≤ 512) × (length (now message) ≡ size q m) ⌝ }
     ensures { λ r. ⌜ gridAnswer q m (now (grid .entry)) (now (message .entry)) ≡ answered r (now (message .exit)) ⌝ }
 {

@@ -29,6 +29,8 @@ pub enum Outcome {
     NoInformationSet,
     // request T-11: number 17, a strap series that is neither 1 nor 2, tested after 1
     BadSeries,
+    // request T-12: number 18, a list of columns that is empty, doesn't ascend or holds no symbol of the field, tested after 1
+    BadColumns,
 }
 
 // The refusal number, 0 for Done.
@@ -53,6 +55,7 @@ pub fn number(o: Outcome) -> u8
         Outcome::BadPlaces => 15,
         Outcome::NoInformationSet => 16,
         Outcome::BadSeries => 17,
+        Outcome::BadColumns => 18,
     }
 }
 
@@ -78,6 +81,7 @@ pub fn second(o: Outcome) -> u16
         Outcome::BadPlaces => 0,
         Outcome::NoInformationSet => 0,
         Outcome::BadSeries => 0,
+        Outcome::BadColumns => 0,
     }
 }
 

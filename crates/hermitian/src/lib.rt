@@ -6,6 +6,9 @@ ghost use Rattle.code.specs.Encoded.{encoded};
 ghost use Rattle.code.specs.Recovered.{recovered};
 ghost use Rattle.code.specs.Unencoded.{unencoded};
 ghost use Rattle.mend.specs.Mended.{mended};
+ghost use Rattle.chosen_columns.specs.EncodedOn.{encodedOn};
+ghost use Rattle.chosen_columns.specs.RecoveredOn.{recoveredOn};
+ghost use Rattle.chosen_columns.specs.UnencodedOn.{unencodedOn};
 ghost use Rattle.systematic.specs.EncodedAt.{encodedAt};
 use code::conversion;
 use code::encoding;
@@ -88,4 +91,43 @@ pub extern "C" fn hermitian_encode_at(
     ensures { λ r. ⌜ Packed (encodedAt q series m (now (places .entry)) (now (symbols .entry)) (now (word .entry))) r (now (word .exit)) ⌝ }
 {
     outcome::packed(systematic::encode_at(q, series, m, places, symbols, word))
+}
+
+#[no_mangle]
+pub extern "C" fn hermitian_encode_on(
+    q: u8,
+    columns: &[u8],
+    m: u16,
+    message: &[u8],
+    word: &mut [u8],
+) -> u32
+    ensures { λ r. ⌜ Packed (encodedOn q (now (columns .entry)) m (now (message .entry)) (now (word .entry))) r (now (word .exit)) ⌝ }
+{
+    outcome::packed(chosen_columns::encode_on(q, columns, m, message, word))
+}
+
+#[no_mangle]
+pub extern "C" fn hermitian_unencode_on(
+    q: u8,
+    columns: &[u8],
+    m: u16,
+    word: &[u8],
+    message: &mut [u8],
+) -> u32
+    ensures { λ r. ⌜ Packed (unencodedOn q (now (columns .entry)) m (now (word .entry)) (now (message .entry))) r (now (message .exit)) ⌝ }
+{
+    outcome::packed(chosen_columns::unencode_on(q, columns, m, word, message))
+}
+
+#[no_mangle]
+pub extern "C" fn hermitian_recover_on(
+    q: u8,
+    columns: &[u8],
+    m: u16,
+    word: &[u8],
+    message: &mut [u8],
+) -> u32
+    ensures { λ r. ⌜ Packed (recoveredOn q (now (columns .entry)) m (now (word .entry)) (now (message .entry))) r (now (message .exit)) ⌝ }
+{
+    outcome::packed(chosen_columns::recover_on(q, columns, m, word, message))
 }

@@ -1,8 +1,9 @@
 -- The columns of a curve: each x has q values y, all symbols; and the full ascending list of columns.
 -- Assumes nothing.
 use mathlib.Core.Bool.{true}
+use mathlib.Core.List.{List}
 use mathlib.Core.Path.{_≡_, refl, sym, ap, _∙_}
-use Prim.Native.Nat.{ℕ, zero, suc, _*_, _<_, _^_}
+use Prim.Native.Nat.{ℕ, zero, suc, _*_, _≤_, _<_, _^_}
 use native.Mathlib.Omega.{arith}
 use lib.Dec.{T}
 use lib.ListN.{length, getD, replicate, getD-replicate}
@@ -12,10 +13,11 @@ use Rattle.field.specs.Power.{power}
 use Rattle.field.specs.Product.{times}
 use Rattle.field.proofs.Table.{agrees, entry}
 use Rattle.field.proofs.Curves.{each-curve, sizes}
+use Rattle.poly.proofs.Lists.{pigeonhole, each-mem}
 use Rattle.points.specs.Passing.{passing, upTo}
 use Rattle.points.specs.Points.{onCurve, ysOf}
 use Rattle.points.specs.inner.Columns.{Columns}
-use Rattle.points.proofs.Passing.{place-true, passing-at, at-place, nodup-passing}
+use Rattle.points.proofs.Passing.{place-true, passing-at, at-place, mem-passing, nodup-passing}
 use Rattle.points.proofs.Traces.{length-ys-8}
 
 -- ---- the y of a column
@@ -58,3 +60,13 @@ ascending-columns q curve =
       small = λ t l. at-place (λ i. true) (q * q) t l .0;
       distinct = nodup-passing (λ i. true) (q * q);
     }
+
+-- different columns are no more than all
+pub columns-few : (q : ℕ) (columns : List ℕ) → Columns q columns → length columns ≤ q * q
+columns-few q columns h =
+    omega (
+      arith,
+      length-upTo (q * q),
+      pigeonhole columns (upTo (q * q)) (h .distinct)
+          (λ x k. mem-passing (λ i. true) (q * q) x refl (each-mem (λ (x : ℕ). x < q * q) 0 columns (h .small) x k)),
+    )

@@ -1,5 +1,6 @@
 pub mod Bools
 pub mod Lists
+pub mod Ascending
 pub mod Below
 pub mod Messages
 pub mod Writes
@@ -42,3 +43,4 @@ pub mod Halves
 pub mod Joins
 pub mod RootInterpolation
 pub mod Trees
+pub mod VanishingTrees

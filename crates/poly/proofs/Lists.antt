@@ -146,6 +146,13 @@ module _ {A : Type 0} where
   nodup-getD (x ∷ xs) d n (suc i) zero h k e = absurd (n .0 (Memᴰ·cast (sym e) (mem-getD xs d i (omega arith))))
   nodup-getD (x ∷ xs) d n (suc i) (suc j) h k e = ap suc (nodup-getD xs d (n .1) i j (omega arith) (omega arith) e)
 
+  pub getD-nodup : (xs : List A) (d : A) → ((i j : ℕ) → i < length xs → j < length xs → getD xs i d ≡ getD xs j d → i ≡ j) → Nodup xs
+  getD-nodup [] d f = tt
+  getD-nodup (x ∷ xs) d f = (
+    λ m. let w = getD-mem xs d m in absurd (omega (arith, f 0 (suc (w .0)) (omega arith) (omega (arith, w .1)) (sym (w .2)))),
+    getD-nodup xs d (λ i j h k e. omega (arith, f (suc i) (suc j) (omega arith) (omega arith) e)),
+  )
+
   -- what holds of the element at each place holds of each element
   pub each-mem : (P : A → Type 0) (d : A) (l : List A) → ((i : ℕ) → i < length l → P (getD l i d)) → (x : A) → Mem x l → P x
   each-mem P d [] h x m = absurd (not-nil m)

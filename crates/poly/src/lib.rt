@@ -4,3 +4,4 @@ pub mod lanes;
 pub mod polynomial;
 pub mod root_interpolation;
 pub mod rows;
+pub mod vanishing;

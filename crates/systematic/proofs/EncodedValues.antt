@@ -19,7 +19,8 @@ use Rattle.code.specs.Answers.{Answer}
 use Rattle.code.specs.Word.{valueAt, wordOf}
 use Rattle.code.specs.Checks.{curveChecks, orderChecks, firstBad, sliceChecks}
 use Rattle.code.proofs.PaperValues.{Row}
-use Rattle.systematic.specs.Places.{isAscending, areBelow, goodPlaces}
+use Rattle.poly.specs.Ascending.{isAscending, areBelow, isAscendingBelow}
+use Rattle.systematic.specs.Places.{goodPlaces}
 use Rattle.systematic.specs.InformationSets.{codewords, symbolsAt, sameList, allOf, isInformationSet, codewordsWith}
 use Rattle.systematic.specs.EncodedAt.{encodeAtChecks, encodedAt}
 
@@ -55,6 +56,6 @@ rows =
 
 -- THE THEOREM of all rows
 pub values : map (λ (r : Row). r .ours) rows ≡ map (λ (r : Row). r .paper) rows
-unfolding encodedAt encodeAtChecks goodPlaces isAscending areBelow every isInformationSet allOf sameList symbolsAt codewords codewordsWith filter all below
+unfolding encodedAt encodeAtChecks goodPlaces isAscendingBelow isAscending areBelow every isInformationSet allOf sameList symbolsAt codewords codewordsWith filter all below
     flatMap wordOf valueAt pointsOn ysOf columnsOf passing power sum times combine timesZ plus curveChecks orderChecks firstBad sliceChecks
 values = refl

@@ -1,19 +1,21 @@
 -- Lists of places: what the tests say of them, and the broken word that has symbols at just these.
 -- Assumes nothing.
-use mathlib.Core.Bool.{Bool, true, false, _&&_}
+use mathlib.Core.Bool.{true, false}
 use mathlib.Core.List.{List}
-use mathlib.Core.Path.{_≡_, refl, sym, ap, _∙_}
-use Prim.Native.Nat.{ℕ, zero, suc, _+_, _-_, _≤_, _<_}
+use mathlib.Core.Path.{_≡_, refl, sym, _∙_}
+use Prim.Native.Nat.{ℕ, zero, suc, _≤_, _<_}
 use native.Mathlib.Decide.{ℕ-discrete}
 use native.Mathlib.Omega.{arith}
 use borrow.Author.Tests.{eq-eqb}
-use lib.Dec.{T, eqb, ltb, eqb→eq, ltb→lt, lt→ltb}
+use lib.Dec.{T, eqb, eqb→eq}
 use lib.ListN.{length, getD, length-set}
 use lib.Seq.{getD-set-same, getD-set-other}
-use Rattle.field.proofs.Search.{of-every, to-every, both}
+use Rattle.field.proofs.Search.{both}
+use Rattle.poly.specs.Ascending.{isAscendingBelow}
+use Rattle.poly.proofs.Ascending.{of-ascending, to-ascending}
 use Rattle.poly.proofs.Bools.{T-true, parts, same-test}
 use Rattle.code.proofs.GridEntries.{laid}
-use Rattle.systematic.specs.Places.{isAscending, areBelow, goodPlaces}
+use Rattle.systematic.specs.Places.{goodPlaces}
 
 -- k different places below n, ascending
 pub record Places (k n : ℕ) (places : List ℕ) : Type 0 where
@@ -21,98 +23,33 @@ pub record Places (k n : ℕ) (places : List ℕ) : Type 0 where
   pub ascending : (i j : ℕ) → i < j → j < length places → getD places i 0 < getD places j 0
   pub below : (i : ℕ) → i < length places → getD places i 0 < n
 
--- each is less than the next, so they ascend
-from-next : (places : List ℕ) → ((i : ℕ) → suc i < length places → getD places i 0 < getD places (suc i) 0)
-    → (i d : ℕ) → i + suc d < length places → getD places i 0 < getD places (i + suc d) 0
-from-next places h i zero l = let e : i + 1 ≡ suc i = omega arith in rw e (h i (omega arith))
-from-next places h i (suc d) l =
-    let e : i + suc (suc d) ≡ suc (i + suc d) = omega arith in
-    let a = from-next places h i d (omega arith) in
-    let b = h (i + suc d) (omega arith) in
-    rw e (omega arith)
-
 module _ (k n : ℕ) (places : List ℕ) where
-  abbrev next : ℕ → Bool
-  next i = ltb (getD places i 0) (getD places (suc i) 0)
-
-  abbrev inside : ℕ → Bool
-  inside i = ltb (getD places i 0) n
-
   pub of-good : T (goodPlaces k n places) → Places k n places
-  unfolding goodPlaces isAscending areBelow
+  unfolding goodPlaces
   of-good t =
-      let a = parts (eqb (length places) k) (isAscending places && areBelow n places) t in
-      let b = parts (isAscending places) (areBelow n places) (a .1) in
-      record {
-        many = eqb→eq (length places) k (a .0);
-        ascending = λ i j l m.
-            let e : i + suc (j - suc i) ≡ j = omega arith in
-            rw (← e) (from-next places (λ i l. ltb→lt (getD places i 0) (getD places (suc i) 0) (of-every (length places - 1) next (b .0) i (omega arith)))
-            i (j - suc i) (omega arith));
-        below = λ i l. ltb→lt (getD places i 0) n (of-every (length places) inside (b .1) i l);
-      }
+      let (many, ascend) = parts (eqb (length places) k) (isAscendingBelow n places) t in
+      let h = of-ascending n places ascend in
+      record { many = eqb→eq (length places) k many; ascending = h .ascending; below = h .below }
+
+  by-parts : length places ≡ k → T (isAscendingBelow n places) → T (goodPlaces k n places)
+  unfolding goodPlaces
+  by-parts e t = both (eqb (length places) k) (isAscendingBelow n places) (rw (eq-eqb (length places) k e) tt) t
 
   pub to-good : Places k n places → T (goodPlaces k n places)
-  unfolding goodPlaces isAscending areBelow
-  to-good h =
-      both (eqb (length places) k) (isAscending places && areBelow n places) (rw (eq-eqb (length places) k (h .many)) tt)
-      (both (isAscending places) (areBelow n places)
-      (to-every (length places - 1) next (λ i l. lt→ltb (getD places i 0) (getD places (suc i) 0) (h .ascending i (suc i) (omega arith) (omega arith))))
-      (to-every (length places) inside (λ i l. lt→ltb (getD places i 0) n (h .below i l))))
+  to-good h = by-parts (h .many) (to-ascending n places (record { ascending = h .ascending; below = h .below }))
 
-  -- ---- the test, by a loop: the first i places ascend below n, and each place after them must be least or more
+  -- ---- how the tests of the code decide it
 
-  pub record Ascending (least i : ℕ) : Type 0 where
-    pub within : i ≤ length places
-    pub first : i ≡ 0 → least ≡ 0
-    pub last : (j : ℕ) → suc j ≡ i → least ≡ suc (getD places j 0)
-    pub nexts : (j : ℕ) → suc j < i → getD places j 0 < getD places (suc j) 0
-    pub inside-n : (j : ℕ) → j < i → getD places j 0 < n
-
-  pub ascending-none : Ascending 0 0
-  ascending-none =
-      record { within = omega arith; first = λ e. refl; last = λ j e. absurd (omega arith); nexts = λ j l. absurd (omega arith); inside-n = λ j l. absurd (omega arith) }
-
-  module _ (least i : ℕ) (h : Ascending least i) where
-    -- the next place is least or more exactly where it is more than the one before it
-    more-than-last : (j : ℕ) → suc j ≡ i → least ≤ getD places i 0 → getD places j 0 < getD places i 0
-    more-than-last j e l = omega (arith, h .last j e)
-
-    pub ascending-turn : i < length places → least ≤ getD places i 0 → getD places i 0 < n → Ascending (getD places i 0 + 1) (i + 1)
-    ascending-turn l a b =
-        record {
-          within = omega arith;
-          first = λ e. absurd (omega arith);
-          last = λ j e. let s : j ≡ i = omega arith in rw s (omega arith);
-          nexts = λ j m. elim (ℕ-discrete (suc j) i) [
-            | yes e ↦ rw e (more-than-last j e a)
-            | no d ↦ h .nexts j (omega arith)
-          ];
-          inside-n = λ j m. elim (ℕ-discrete j i) [ yes e ↦ rw e b | no d ↦ h .inside-n j (omega arith) ];
-        }
-
-    -- a place that is too small or too large
-    pub not-ascending : i < length places → getD places i 0 < least → false ≡ goodPlaces k n places
-    not-ascending l a = same-test false (goodPlaces k n places) (λ t. absurd t) (λ t. refuted (of-good t) i refl)
-      where
-        refuted : Places k n places → (j : ℕ) → j ≡ i → T false
-        refuted p zero e = absurd (omega (arith, h .first (sym e)))
-        refuted p (suc j) e = absurd (omega (arith, h .last j e, p .ascending j (suc j) (omega arith) (omega arith), ap (λ (x : ℕ). getD places x 0) e))
-
-    pub not-below : i < length places → n ≤ getD places i 0 → false ≡ goodPlaces k n places
-    not-below l a = same-test false (goodPlaces k n places) (λ t. absurd t) (λ t. absurd (omega (arith, of-good t .below i l)))
-
-    pub are-good : length places ≡ k → length places ≤ i → true ≡ goodPlaces k n places
-    unfolding goodPlaces isAscending areBelow
-    are-good e l =
-        sym (T-true (goodPlaces k n places)
-        (both (eqb (length places) k) (isAscending places && areBelow n places) (rw (eq-eqb (length places) k e) tt)
-        (both (isAscending places) (areBelow n places)
-        (to-every (length places - 1) next (λ j m. lt→ltb (getD places j 0) (getD places (suc j) 0) (h .nexts j (omega arith))))
-        (to-every (length places) inside (λ j m. lt→ltb (getD places j 0) n (h .inside-n j (omega arith)))))))
+  pub are-good : length places ≡ k → T (isAscendingBelow n places) → true ≡ goodPlaces k n places
+  are-good e t = sym (T-true (goodPlaces k n places) (by-parts e t))
 
   pub not-many : (length places ≡ k → ⊥) → false ≡ goodPlaces k n places
   not-many d = same-test false (goodPlaces k n places) (λ t. absurd t) (λ t. absurd (d (of-good t .many)))
+
+  pub not-good : (T (isAscendingBelow n places) → ⊥) → false ≡ goodPlaces k n places
+  not-good d =
+      same-test false (goodPlaces k n places) (λ t. absurd t)
+      (λ t. let h = of-good t in absurd (d (to-ascending n places (record { ascending = h .ascending; below = h .below }))))
 
 -- ---- symbols laid out at places
 

@@ -50,7 +50,8 @@ use Rattle.code.proofs.Stages.{symbols-scatter}
 use Rattle.code.proofs.Weights.{curve-pos, weight-of-entry, entry-of-weight, entry-term, weights-once}
 use Rattle.code.proofs.WordColumns.{word-at, word-length}
 use Rattle.systematic.specs.InformationSets.{symbolsAt, isInformationSet, TwoAgree}
-use Rattle.systematic.specs.Places.{isAscending, areBelow, goodPlaces}
+use Rattle.poly.specs.Ascending.{isAscending, areBelow, isAscendingBelow}
+use Rattle.systematic.specs.Places.{goodPlaces}
 use Rattle.systematic.specs.Staircases.{highestX, Holding, Stair, Staircase, lightPlaces, isAmong, heldBy, columnsWith, isStaircase}
 use Rattle.systematic.proofs.PlaceLists.{Places, of-good}
 use Rattle.systematic.proofs.InformationSets.{add, add-message, word-add, word-injective, of-symbols-same, Fixing, test-of-fixing}
@@ -327,7 +328,7 @@ module _ (series : ℕ) where
   strap-staircase = of-test 4 (columnsOf 4 series) 37 strapStaircase (rw (length-columns 4 series strap-curve) tt)
 
   pub strap-places : Places (size 4 37) (4 * length (columnsOf 4 series)) strapStaircase
-  unfolding goodPlaces isAscending areBelow passing every
+  unfolding goodPlaces isAscendingBelow isAscending areBelow passing every
   strap-places = rw (length-columns 4 series strap-curve) (of-good 32 64 strapStaircase tt)
 
   strap-order : 37 < 4 * length (columnsOf 4 series)

@@ -51,7 +51,7 @@ fn write_line(
         return writeln!(lines, "{number} short {}", part.len());
     };
     let mut message = [0; K];
-    let answer = baseline.recover(word, &mut message);
+    let answer = baseline.code.recover(word, &mut message);
     if answer != DONE {
         return writeln!(lines, "{number} no {} {}", answer >> 16, answer % (1 << 16));
     }

@@ -10,7 +10,7 @@ use reference::sample::{self, Shape};
 
 use crate::long_baseline::LongBaseline;
 use crate::timing::{self, Times};
-use crate::{baseline, fixed, packed, print_heading, print_row, SERIES};
+use crate::{fixed, packed, print_heading, print_row, SERIES};
 
 pub const Q: u8 = 8;
 pub const M: u16 = 300;
@@ -87,35 +87,13 @@ fn recovery_times(baseline: &LongBaseline, words: &[Word]) -> Times {
     )
 }
 
-/// The two ways must agree on these and on damaged words before they are timed on
-/// the former.
+/// The two ways must agree on damaged words too.
 fn decoding_times(
     words: &[Word],
-    mut library: impl FnMut(&Word, &mut Message) -> u32,
-    baseline: impl Fn(&Word, &mut Message) -> u32,
+    library: impl FnMut(&Word, &mut Message) -> u32,
+    baseline: impl FnMut(&Word, &mut Message) -> u32,
 ) -> Times {
-    for word in words.iter().chain(&damaged(words)) {
-        let (mut ours, mut theirs) = ([99; K], [99; K]);
-        let answer = library(word, &mut ours);
-        assert_eq!(baseline(word, &mut theirs), answer);
-        assert!(answer != baseline::DONE || ours == theirs);
-    }
-    let (mut ours, mut theirs) = ([0; K], [0; K]);
-    timing::compare(
-        words.len(),
-        || {
-            for word in words {
-                black_box(library(black_box(word), &mut ours));
-                black_box(&ours);
-            }
-        },
-        || {
-            for word in words {
-                black_box(baseline(black_box(word), &mut theirs));
-                black_box(&theirs);
-            }
-        },
-    )
+    timing::compare_calls(words, &damaged(words), [99; K], library, baseline)
 }
 
 fn shape() -> Shape {

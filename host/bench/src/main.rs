@@ -5,14 +5,17 @@
 //! With `long` as argument it does the same for long blocks at q = 8, m = 300. With
 //! `blocks` it compares programs instead, with `turns` recovery in turns with
 //! recovery in one go, with `places` encoding at chosen places with recovery from
-//! them at several orders; with an operation's name and a number of calls it runs the
-//! library alone, for a profiler.
+//! them at several orders, with `columns` the calls on chosen columns with the baseline
+//! and with the calls on all columns; with an operation's name and a number of calls it
+//! runs the library alone, for a profiler.
 
 mod baseline;
 mod blocks;
 mod blocks_baseline;
+mod columns;
 mod long;
 mod long_baseline;
+mod matrix_code;
 mod places;
 mod profile;
 mod timing;
@@ -52,13 +55,16 @@ const USAGE: &str = "arguments, one of these:
   blocks [PROGRAM]    speed of the program `blocks` and of the baseline's
   turns               times of recovery in turns, by jobs, and of recovery in one go
   places              times of encoding at chosen places and of recovery from these places
+  columns             times of the operations on eight chosen columns, of the baseline's
+                      and of those on all columns
   blocks-baseline     the baseline's `blocks`, from standard input to standard output
   OPERATION CALLS     the library alone, for a profiler;
                       the operation is encode, encode-at, unencode, convert,
                       recover-COUNT, where COUNT symbols are missing,
                       or mend-COUNT, where COUNT symbols are wrong, of short blocks,
                       each with series-2- before it for the other series;
-                      long-encode, long-unencode or long-recover-COUNT of long ones";
+                      long-encode, long-unencode or long-recover-COUNT of long ones,
+                      and with columns- in place of long- on eight chosen columns";
 
 fn main() -> ExitCode {
     let arguments: Vec<String> = std::env::args().skip(1).collect();
@@ -88,6 +94,10 @@ fn run(arguments: &[&str]) -> Result<(), String> {
         }
         ["places"] => {
             places::print_table();
+            Ok(())
+        }
+        ["columns"] => {
+            columns::print_table();
             Ok(())
         }
         ["blocks"] => blocks::run(blocks::PROGRAM),
@@ -137,7 +147,7 @@ fn encoding_times(baseline: &Baseline, messages: &[Message]) -> Times {
     for message in messages {
         let (mut ours, mut theirs) = ([0; N], [0; N]);
         let answer = packed(hermitian::encode(Q, SERIES, M, message, &mut ours));
-        assert_eq!(baseline.encode(message, &mut theirs), answer);
+        assert_eq!(baseline.code.encode(message, &mut theirs), answer);
         assert_eq!(ours, theirs);
     }
     let (mut ours, mut theirs) = ([0; N], [0; N]);
@@ -157,7 +167,7 @@ fn encoding_times(baseline: &Baseline, messages: &[Message]) -> Times {
         },
         || {
             for message in messages {
-                black_box(baseline.encode(black_box(message), &mut theirs));
+                black_box(baseline.code.encode(black_box(message), &mut theirs));
                 black_box(&theirs);
             }
         },
@@ -166,13 +176,13 @@ fn encoding_times(baseline: &Baseline, messages: &[Message]) -> Times {
 
 fn unencoding_times(baseline: &Baseline, words: &[Word]) -> Times {
     decoding_times(words, hermitian::unencode, |word, message| {
-        baseline.unencode(word, message)
+        baseline.code.unencode(word, message)
     })
 }
 
 fn recovery_times(baseline: &Baseline, words: &[Word]) -> Times {
     decoding_times(words, hermitian::recover, |word, message| {
-        baseline.recover(word, message)
+        baseline.code.recover(word, message)
     })
 }
 
@@ -228,27 +238,8 @@ fn mending_times(baseline: &Baseline, words: &[Word], wrong: usize) -> Times {
     for word in words {
         assert_eq!(library(word, &mut empty_output()), expected);
     }
-    for word in words.iter().chain(&damaged(words)) {
-        let (mut ours, mut theirs) = (empty_output(), empty_output());
-        assert_eq!(library(word, &mut ours), baseline(word, &mut theirs));
-        assert_eq!(ours, theirs);
-    }
-    let (mut ours, mut theirs) = (empty_output(), empty_output());
-    timing::compare(
-        words.len(),
-        || {
-            for word in words {
-                black_box(library(black_box(word), &mut ours));
-                black_box(&ours);
-            }
-        },
-        || {
-            for word in words {
-                black_box(baseline(black_box(word), &mut theirs));
-                black_box(&theirs);
-            }
-        },
-    )
+    let damaged = damaged(words);
+    timing::compare_calls(words, &damaged, empty_output(), library, baseline)
 }
 
 fn empty_output() -> MendOutput {

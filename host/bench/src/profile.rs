@@ -6,7 +6,7 @@ use hermitian::WORK_LENGTH;
 use reference::curve::{Curve, Series};
 use reference::sample::Shape;
 
-use crate::{broken_words, fixed, long, messages, places, wrong_words};
+use crate::{broken_words, columns, fixed, long, messages, places, wrong_words};
 use crate::{Message, Word, K, M, N, Q, SERIES, USAGE};
 
 pub fn run(operation: &str, calls: &str) -> Result<(), String> {
@@ -15,6 +15,9 @@ pub fn run(operation: &str, calls: &str) -> Result<(), String> {
     };
     if let Some(operation) = operation.strip_prefix("long-") {
         return run_long(operation, calls);
+    }
+    if let Some(operation) = operation.strip_prefix("columns-") {
+        return run_on_columns(operation, calls);
     }
     match operation.strip_prefix("series-2-") {
         Some(operation) => run_short(operation, Series::Two, calls),
@@ -71,6 +74,25 @@ fn run_long(operation: &str, calls: usize) -> Result<(), String> {
         Some(("recover", Some(missing))) => {
             repeat(calls, &long::broken_words(&words, missing), |input| {
                 hermitian::recover_long(SERIES, long::M, input, &mut message, &mut work)
+            })
+        }
+        _ => return Err(USAGE.to_string()),
+    }
+    Ok(())
+}
+
+fn run_on_columns(operation: &str, calls: usize) -> Result<(), String> {
+    let (mut message, mut word) = ([0; columns::K], [0; columns::N]);
+    match named(operation, columns::N) {
+        Some(("encode", None)) => repeat(calls, &columns::messages(), |input| {
+            columns::encode(input, &mut word)
+        }),
+        Some(("unencode", None)) => repeat(calls, &columns::words(), |input| {
+            columns::unencode(input, &mut message)
+        }),
+        Some(("recover", Some(missing))) => {
+            repeat(calls, &columns::broken_words(missing), |input| {
+                columns::recover(input, &mut message)
             })
         }
         _ => return Err(USAGE.to_string()),

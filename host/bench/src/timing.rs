@@ -1,5 +1,7 @@
 //! Times of two ways to do the same, sample by sample in turn.
 
+use std::fmt::Debug;
+use std::hint::black_box;
 use std::time::Instant;
 
 const SAMPLES: usize = 41;
@@ -27,6 +29,40 @@ pub fn compare(calls: usize, mut library: impl FnMut(), mut baseline: impl FnMut
         quickest.baseline = quickest.baseline.min(baseline_time);
     }
     quickest
+}
+
+/// Calls both ways with all inputs. They must give the same answers and outputs, with
+/// other inputs too, before they are timed.
+pub fn compare_calls<Input, Output: Copy + Debug + PartialEq>(
+    inputs: &[Input],
+    others: &[Input],
+    output: Output,
+    mut library: impl FnMut(&Input, &mut Output) -> u32,
+    mut baseline: impl FnMut(&Input, &mut Output) -> u32,
+) -> Times {
+    for input in inputs.iter().chain(others) {
+        let (mut ours, mut theirs) = (output, output);
+        let answer = library(input, &mut ours);
+        assert_eq!(baseline(input, &mut theirs), answer);
+        assert_eq!(ours, theirs);
+    }
+    let (mut ours, mut theirs) = (output, output);
+    compare(
+        inputs.len(),
+        || call_with_all(inputs, &mut ours, &mut library),
+        || call_with_all(inputs, &mut theirs, &mut baseline),
+    )
+}
+
+pub fn call_with_all<Input, Output>(
+    inputs: &[Input],
+    output: &mut Output,
+    mut call: impl FnMut(&Input, &mut Output) -> u32,
+) {
+    for input in inputs {
+        black_box(call(black_box(input), output));
+        black_box(&*output);
+    }
 }
 
 /// How many runs take long enough for the clock; also warms the caches.

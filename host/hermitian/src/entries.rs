@@ -5,6 +5,12 @@
 /// its length. The answer is the refusal number times 65536 plus the second number.
 pub type Entry = unsafe extern "C" fn(u8, u8, u16, *const u8, usize, *mut u8, usize) -> u32;
 
+/// The shape of [`hermitian_encode_on`], [`hermitian_unencode_on`] and
+/// [`hermitian_recover_on`]: q, the columns and their count, m, the input and its
+/// length, the output and its length.
+pub type EntryOn =
+    unsafe extern "C" fn(u8, *const u8, usize, u16, *const u8, usize, *mut u8, usize) -> u32;
+
 extern "C" {
     /// # Safety
     ///
@@ -102,5 +108,47 @@ extern "C" {
         word_length: usize,
         out: *mut u8,
         out_length: usize,
+    ) -> u32;
+
+    /// # Safety
+    ///
+    /// As for [`hermitian_encode`].
+    pub fn hermitian_encode_on(
+        q: u8,
+        columns: *const u8,
+        count: usize,
+        m: u16,
+        message: *const u8,
+        message_length: usize,
+        word: *mut u8,
+        word_length: usize,
+    ) -> u32;
+
+    /// # Safety
+    ///
+    /// As for [`hermitian_encode`].
+    pub fn hermitian_unencode_on(
+        q: u8,
+        columns: *const u8,
+        count: usize,
+        m: u16,
+        word: *const u8,
+        word_length: usize,
+        message: *mut u8,
+        message_length: usize,
+    ) -> u32;
+
+    /// # Safety
+    ///
+    /// As for [`hermitian_encode`].
+    pub fn hermitian_recover_on(
+        q: u8,
+        columns: *const u8,
+        count: usize,
+        m: u16,
+        word: *const u8,
+        word_length: usize,
+        message: *mut u8,
+        message_length: usize,
     ) -> u32;
 }

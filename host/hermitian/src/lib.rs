@@ -4,7 +4,8 @@
 //! gives the message back, whole or with symbols missing. Wrong symbols are
 //! corrected by [`mend`] alone: elsewhere the library says when no message fits.
 //! [`encode_at`] finds the word that has k given symbols at k chosen places, and
-//! [`convert`] turns a word of one strap series into that of the other.
+//! [`convert`] turns a word of one strap series into that of the other. [`encode_on`],
+//! [`unencode_on`] and [`recover_on`] work on chosen columns alone.
 //!
 //! | q | n, length of a word | symbols | order m |
 //! |---|---|---|---|
@@ -18,13 +19,15 @@
 //! wrong symbols of a whole word are mended, 10 for the strap.
 //!
 //! The blocks of q = 8 are long ones. [`encode`], [`unencode`] and [`convert`] take
-//! all three curves, [`encode_at`], [`recover`] and [`mend`] short blocks only;
-//! [`recover_long`] takes long ones and is lent [`WORK_LENGTH`] bytes to work in.
+//! all three curves; [`recover_long`] takes long blocks and is lent [`WORK_LENGTH`] bytes
+//! to work in; the other six take short blocks only.
 //!
 //! The places of a word are the points of the curve, column by column, and by y
-//! ascending in a column. Each call names the series that lists the columns: series 1
+//! ascending in a column. A call names the series that lists the columns: series 1
 //! by x ascending; series 2 has x = 0, then the powers of z, the symbol 2, from the
-//! power 0 on. At q = 2 the two are the same list.
+//! power 0 on. At q = 2 the two are the same list. The calls on chosen columns name no
+//! series but list the columns themselves, by x ascending; for them n is q times the
+//! number of columns.
 //!
 //! ```
 //! use hermitian::{encode, recover, unencode, Refusal, MISSING};
@@ -62,6 +65,7 @@
 //! declarations in [`entries`] are those of the library isn't proved; the
 //! differential tests hold them together.
 
+mod chosen_columns;
 mod conversion;
 pub mod entries;
 mod long;
@@ -69,14 +73,15 @@ mod mend;
 mod refusal;
 mod systematic;
 
+pub use chosen_columns::{encode_on, recover_on, unencode_on};
 pub use conversion::convert;
 pub use long::{recover_long, WORK_LENGTH};
 pub use mend::{mend, mend_into, Mended};
 pub use refusal::Refusal;
 pub use systematic::encode_at;
 
-/// Stands for a missing symbol in the word given to [`recover`], [`recover_long`] or
-/// [`convert`].
+/// Stands for a missing symbol in the word given to [`recover`], [`recover_long`],
+/// [`recover_on`] or [`convert`].
 pub const MISSING: u8 = 255;
 
 /// Writes the word of a message: k symbols in, n symbols out.
@@ -113,7 +118,8 @@ pub fn recover(q: u8, series: u8, m: u16, word: &[u8], message: &mut [u8]) -> Re
     refusal::of_answer(call(entry, q, series, m, word, message))
 }
 
-/// n, the length of a word; `None` if q names no curve.
+/// n, the length of a word of all columns; `None` if q names no curve. On chosen columns
+/// n is q times their number.
 pub fn word_length(q: u8) -> Option<usize> {
     match q {
         2 => Some(8),
@@ -124,7 +130,8 @@ pub fn word_length(q: u8) -> Option<usize> {
 }
 
 /// k, the length of a message: the number of terms x^i·y^j with j below q and
-/// weight q·i + (q + 1)·j up to m. `None` if q or m would be refused.
+/// weight q·i + (q + 1)·j up to m. `None` if q or m would be refused on all columns. On
+/// chosen columns k is the same.
 pub fn message_length(q: u8, m: u16) -> Option<usize> {
     let order = usize::from(m);
     if order >= word_length(q)? {

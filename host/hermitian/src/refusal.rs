@@ -3,16 +3,16 @@
 use std::error::Error;
 use std::fmt;
 
-/// The refusals that the seven entries can give. The library checks in the order
-/// of the numbers, only 17 comes right after 1, 12 and 15 right after 2 and 14 right
+/// The refusals that the ten entries can give. The library checks in the order of
+/// the numbers, only 17 or 18 comes right after 1, 12 and 15 right after 2 and 14 right
 /// after 5, and the first that applies decides. Numbers 6 and 7 belong to receiving
 /// sessions and 13 to the field's inverse, which have no C entry; 8 no longer occurs.
 #[derive(Clone, Copy, Debug, PartialEq, Eq, Hash)]
 pub enum Refusal {
-    /// 1: q is none of 2, 4 and 8; to encode at places, to recover and to mend: q is
-    /// neither 2 nor 4.
+    /// 1: q is none of 2, 4 and 8; to encode at places, to recover, to mend and on
+    /// chosen columns: q is neither 2 nor 4.
     UnknownCurve,
-    /// 2: m is n or more, up to 65535.
+    /// 2: m is n or more, up to 65535; on chosen columns n is q times their number.
     OrderTooHigh,
     /// 3: the message isn't k long, or the word isn't n long; to encode at places:
     /// the symbols aren't k in number.
@@ -38,6 +38,9 @@ pub enum Refusal {
     PlacesLeaveSeveral,
     /// 17: the series is neither 1 nor 2.
     BadSeries,
+    /// 18: the list of columns is empty, or not strictly ascending, or holds a value
+    /// of q·q or more.
+    BadColumns,
     /// No answer of the rules: what is linked isn't the library that this
     /// wrapper was written for.
     NotInTheRules { answer: u32 },
@@ -52,7 +55,8 @@ impl fmt::Display for Refusal {
             ),
             Refusal::OrderTooHigh => write!(
                 f,
-                "the order m is too high: at most 7 for q = 2, 63 for q = 4, 511 for q = 8"
+                "the order m is too high: at most 7 for q = 2, 63 for q = 4, 511 for q = 8, \
+                 and less than q times the number of chosen columns"
             ),
             Refusal::WrongInputLength => {
                 write!(f, "the input is longer or shorter than this order asks for")
@@ -90,6 +94,10 @@ impl fmt::Display for Refusal {
                 write!(f, "the places don't fix the codeword at this order")
             }
             Refusal::BadSeries => write!(f, "the series must be 1 or 2"),
+            Refusal::BadColumns => write!(
+                f,
+                "the columns must be at least one, ascending and less than q * q"
+            ),
             Refusal::NotInTheRules { answer } => write!(
                 f,
                 "the linked library gave an answer outside the rules: {answer}"
@@ -118,6 +126,7 @@ pub(crate) fn of_answer(answer: u32) -> Result<(), Refusal> {
         15 => Refusal::BadPlaces,
         16 => Refusal::PlacesLeaveSeveral,
         17 => Refusal::BadSeries,
+        18 => Refusal::BadColumns,
         _ => Refusal::NotInTheRules { answer },
     };
     if refusal.answer() == answer {
@@ -144,6 +153,7 @@ impl Refusal {
             Refusal::BadPlaces => (15, 0),
             Refusal::PlacesLeaveSeveral => (16, 0),
             Refusal::BadSeries => (17, 0),
+            Refusal::BadColumns => (18, 0),
             Refusal::NotInTheRules { answer } => return answer,
         };
         number * 65536 + u32::from(second)
@@ -173,6 +183,7 @@ mod tests {
             (983_040, Refusal::BadPlaces),
             (1_048_576, Refusal::PlacesLeaveSeveral),
             (1_114_112, Refusal::BadSeries),
+            (1_179_648, Refusal::BadColumns),
         ];
         for (answer, refusal) in rows {
             assert_eq!(of_answer(answer), Err(refusal));
@@ -191,8 +202,9 @@ mod tests {
             (15 << 16) + 1,
             (16 << 16) + 1,
             (17 << 16) + 3,
+            (18 << 16) + 1,
         ];
-        let no_refusal = [1, 6 << 16, 13 << 16, 18 << 16, u32::MAX];
+        let no_refusal = [1, 6 << 16, 13 << 16, 19 << 16, u32::MAX];
         for answer in [with_second.as_slice(), &no_refusal].concat() {
             let refusal = Refusal::NotInTheRules { answer };
             assert_eq!(of_answer(answer), Err(refusal));

@@ -9,18 +9,19 @@
 //! | 1 | q |
 //! | 2 | the low byte of m |
 //! | 3 | the length of the input, 0 to 72; of `y` the low byte of the next place |
-//! | 4 | the length of the output slice, 0 to 72; of `E` the number of symbols |
-//! | 5 | the first operand, the low byte of an arrival's place, the length of the mended word's slice, the length of the word's slice of `E`, the budget of a job's call, or the first budget of `t` |
+//! | 4 | the length of the output slice, 0 to 72; of `E` the number of symbols, of `X`, `U` and `R` that of the columns |
+//! | 5 | the first operand, the low byte of an arrival's place, the length of the mended word's slice, the length of the slice that `E`, `X`, `U` and `R` write, the budget of a job's call, or the first budget of `t` |
 //! | 6 | the second operand, the symbol of an arrival, the length of the marks' slice, the index of the place of `E` that has a high byte, or the second budget of `t`; of `y` its flags: 1 if a contradiction was met, 2 if the equations were complete |
-//! | 7 | the round of an arrival, the byte that fills the word's slice of `E`, or the third budget of `t`; of `y` the kind of work bytes |
+//! | 7 | the round of an arrival, the byte that fills the slice that `E`, `X`, `U` and `R` write, or the third budget of `t`; of `y` the kind of work bytes |
 //! | 8 to 79 | the input, of `y` 64 bytes, of `E` the low bytes of the places, then zeros |
-//! | 80 to 151 | the output slice before the call, of `m` the longest one, of `E` the symbols, then zeros; of `y` any 72 bytes, which start with that slice |
+//! | 80 to 151 | the output slice before the call, of `m` the longest one, of `E` the symbols, of `X`, `U` and `R` the columns, then zeros; of `y` any 72 bytes, which start with that slice |
 //! | 152 | the high byte of m |
 //! | 153 | the high byte of an arrival's place, of the next place of `y` or of one place of `E` |
 //! | 154 | the series with its lowest bit flipped: 0 for series 1, 3 for series 2 |
 //! | 155 to 159 | zeros |
 //!
-//! The ops are these letters. Those that take m take the series too, and so does `C`.
+//! The ops are these letters. Those that take m take the series too, but for `X`, `U` and
+//! `R`, and so does `C`.
 //!
 //! - `e`, `u`, `r`: encode, unencode and recover, from the input into the
 //!   output slice. The line ends with the slice after the call, two
@@ -79,6 +80,10 @@
 //!   place at most is above 255. The word's slice holds the same byte everywhere
 //!   before the call, and a length over 72 is taken as 72. Current session and job
 //!   stay as they are, and the line ends as with `e`.
+//! - `X`, `U`, `R`: encode, unencode and recover on chosen columns (request T-12), from
+//!   q, the columns, m and the input into a slice that holds the same byte everywhere
+//!   before the call; a length over 72 is taken as 72. Current session and job stay as
+//!   they are, and the line ends as with `e`.
 //!
 //! Until request T-08 orders and places had 8 bits, and the two high bytes were
 //! among the zeros, as the series was until request T-11: a record from before them
@@ -88,6 +93,7 @@
 //! and `y`), and its parts are parted by one space each.
 
 use crate::arithmetic;
+use crate::chosen_columns;
 use crate::code;
 use crate::conversion;
 use crate::job::{Job, Reply};
@@ -237,6 +243,29 @@ impl Case {
         }
     }
 
+    /// A case of `X`, `U` or `R`. The slice to be written has this length and holds
+    /// `fill` everywhere.
+    pub fn of_columns(
+        op: u8,
+        q: u8,
+        columns: &[u8],
+        m: u16,
+        input: &[u8],
+        length: usize,
+        fill: u8,
+    ) -> Case {
+        Case {
+            op,
+            q,
+            m,
+            a: length.min(SLICE_ROOM) as u8,
+            round: fill,
+            input: input.to_vec(),
+            output: columns.to_vec(),
+            ..Case::default()
+        }
+    }
+
     /// The places of a case of `E`.
     pub fn places(&self) -> Vec<u16> {
         let high_byte = |index: usize| match index == usize::from(self.b) {
@@ -364,6 +393,7 @@ impl Runner {
             b'o' | b's' | b'a' => self.session_answer(case),
             b'm' => mend_answer(case),
             b'E' => encode_at_answer(case),
+            b'X' | b'U' | b'R' => chosen_columns_answer(case),
             b'j' | b'J' => self.job_opening_answer(case),
             b'c' => self.job_call_answer(case),
             b'y' => (Outcome::ACCEPTED, "kept".to_string()),
@@ -457,6 +487,18 @@ fn encode_at_answer(case: &Case) -> (Outcome, String) {
     let mut word = vec![case.round; slice_length(case.a)];
     let outcome = systematic::encode_at(q, series, m, &case.places(), &case.output, &mut word);
     (outcome, hexadecimal(&word))
+}
+
+fn chosen_columns_answer(case: &Case) -> (Outcome, String) {
+    let (columns, input) = (&case.output, &case.input);
+    let mut output = vec![case.round; slice_length(case.a)];
+    let call = match case.op {
+        b'X' => chosen_columns::encode_on,
+        b'U' => chosen_columns::unencode_on,
+        _ => chosen_columns::recover_on,
+    };
+    let outcome = call(case.q, columns, case.m, input, &mut output);
+    (outcome, hexadecimal(&output))
 }
 
 fn raw_session(case: &Case) -> Session {
@@ -607,7 +649,7 @@ mod tests {
 
     #[test]
     fn the_high_byte_of_an_order_is_at_offset_152() {
-        for op in *b"eurmosjJptyE" {
+        for op in *b"eurmosjJptyEXUR" {
             let mut record = [0; 160];
             record[..3].copy_from_slice(&[op, 4, 37]);
             for (high, m) in [(0, 37), (1, 293), (255, 65_317)] {
@@ -665,6 +707,56 @@ mod tests {
         assert_eq!(case.places(), [255; 72]);
         assert_eq!(case.output, [255; 72]);
         assert_eq!(lines(&[case]), [format!("E 1 0 {}\n", "ff".repeat(72))]);
+        for op in *b"XUR" {
+            record[0] = op;
+            let case = Case::from_record(&record);
+            assert_eq!((case.input.len(), case.output.len()), (72, 72));
+            let line = format!("{} 1 0 {}\n", char::from(op), "ff".repeat(72));
+            assert_eq!(lines(&[case]), [line]);
+        }
+    }
+
+    #[test]
+    fn the_layout_of_a_record_of_chosen_columns() {
+        for op in *b"XUR" {
+            let case = Case::of_columns(op, 2, &[1, 3], 259, &[6, 7, 8], 5, 99);
+            let mut expected = [0; 160];
+            expected[..11].copy_from_slice(&[op, 2, 3, 3, 2, 5, 0, 99, 6, 7, 8]);
+            expected[80..82].copy_from_slice(&[1, 3]);
+            expected[152] = 1;
+            assert_eq!(case.to_record(), expected);
+            assert_eq!(Case::from_record(&expected), case);
+            let longest = Case::of_columns(op, 2, &[], 3, &[], 73, 99);
+            assert_eq!(longest.a, 72);
+        }
+    }
+
+    /// Value E of paper 01 on the columns 1 and 3: 2 1 1 2. Session and job stay those of
+    /// a refused opening.
+    #[test]
+    fn lines_of_chosen_columns() {
+        let line = |op, columns: &[u8], m, input: &[u8], length| {
+            let call = Case::of_columns(op, 2, columns, m, input, length, 99);
+            let after = lines(&[call, session_case(b'k', 0, 0, &[9]), job_call(1, &[9])]);
+            assert_eq!(after[1..], ["k 10 1 09\n", "c 10 1 0 finished 09\n"]);
+            after[0].clone()
+        };
+        let (columns, word) = ([1, 3], [2, 1, 1, 2]);
+        assert_eq!(line(b'X', &columns, 3, &[1, 2, 3], 4), "X 0 0 02010102\n");
+        assert_eq!(line(b'U', &columns, 3, &word, 3), "U 0 0 010203\n");
+        assert_eq!(line(b'R', &columns, 3, &word, 3), "R 0 0 010203\n");
+        let broken = [2, 1, 255, 255];
+        assert_eq!(line(b'R', &columns, 3, &broken, 3), "R 10 1 636363\n");
+        assert_eq!(line(b'U', &columns, 3, &broken, 3), "U 4 2 636363\n");
+        assert_eq!(line(b'U', &columns, 2, &word, 2), "U 9 0 6363\n");
+        assert_eq!(line(b'X', &[3, 1], 3, &[1, 2, 3], 4), "X 18 0 63636363\n");
+        assert_eq!(line(b'X', &[], 3, &[1, 2, 3], 0), "X 18 0 \n");
+        assert_eq!(line(b'X', &columns, 4, &[1, 2, 3, 0], 1), "X 2 0 63\n");
+        assert_eq!(line(b'X', &columns, 3, &[4; 4], 1), "X 3 0 63\n");
+        assert_eq!(
+            line(b'X', &columns, 3, &[1, 2, 3], 8),
+            "X 5 0 6363636363636363\n"
+        );
     }
 
     #[test]

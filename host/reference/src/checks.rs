@@ -41,9 +41,33 @@ pub fn short_curve_and_order(q: u8, series: u8, m: u16) -> Result<Curve, Outcome
     Ok(curve)
 }
 
+/// Refusals 1, 18 and 2 of short blocks from chosen columns (request T-12), which
+/// name no series and have the points of series 1.
+pub fn short_curve_columns_and_order(q: u8, columns: &[u8], m: u16) -> Result<Curve, Outcome> {
+    let curve = Curve::short_named(q).ok_or(Outcome::UNKNOWN_CURVE)?;
+    self::columns(curve.field(), columns)?;
+    order_below(m, usize::from(q) * columns.len())?;
+    Ok(curve)
+}
+
+/// Refusal 18.
+pub fn columns(field: Field, columns: &[u8]) -> Result<(), Outcome> {
+    let ascending = columns.windows(2).all(|pair| pair[0] < pair[1]);
+    let in_the_field = columns.iter().all(|&x| x < field.size());
+    if columns.is_empty() || !ascending || !in_the_field {
+        return Err(Outcome::BAD_COLUMNS);
+    }
+    Ok(())
+}
+
 /// Refusal 2.
 pub fn order(curve: Curve, m: u16) -> Result<(), Outcome> {
-    if usize::from(m) >= curve.point_count() {
+    order_below(m, curve.point_count())
+}
+
+/// Refusal 2 of a block with n places.
+fn order_below(m: u16, n: usize) -> Result<(), Outcome> {
+    if usize::from(m) >= n {
         return Err(Outcome::ORDER_TOO_HIGH);
     }
     Ok(())
@@ -179,6 +203,56 @@ mod tests {
         ];
         for list in bad {
             assert_eq!(places(list, 3, 8), Err(Outcome::BAD_PLACES));
+        }
+    }
+
+    #[test]
+    fn only_ascending_columns_of_the_field_are_accepted() {
+        let good: [&[u8]; 5] = [&[0], &[3], &[0, 3], &[1, 2], &[0, 1, 2, 3]];
+        for list in good {
+            assert_eq!(columns(Field::OF_4, list), Ok(()));
+        }
+        let bad: [&[u8]; 9] = [
+            &[],
+            &[4],
+            &[255],
+            &[0, 0],
+            &[1, 0],
+            &[0, 2, 1],
+            &[0, 1, 4],
+            &[0, 1, 2, 3, 3],
+            &[0, 1, 2, 3, 4],
+        ];
+        for list in bad {
+            let refused = Err(Outcome::BAD_COLUMNS);
+            assert_eq!(columns(Field::OF_4, list), refused, "{list:?}");
+        }
+        let all: Vec<u8> = (0..17).collect();
+        assert_eq!(columns(Field::OF_16, &all[..16]), Ok(()));
+        assert_eq!(columns(Field::OF_16, &all), Err(Outcome::BAD_COLUMNS));
+    }
+
+    #[test]
+    fn orders_below_q_times_the_number_of_columns_are_accepted() {
+        for q in [2, 4] {
+            let field_size = q * q;
+            for first in 0..field_size {
+                let columns: Vec<u8> = (first..field_size).collect();
+                let n = u16::from(q) * columns.len() as u16;
+                for m in 0..=u16::MAX {
+                    let found = short_curve_columns_and_order(q, &columns, m);
+                    let too_high = found == Err(Outcome::ORDER_TOO_HIGH);
+                    assert_eq!((found.is_ok(), too_high), (m < n, m >= n));
+                }
+                let refused = Err(Outcome::BAD_COLUMNS);
+                let longer = [columns, vec![0]].concat();
+                assert_eq!(short_curve_columns_and_order(q, &longer, u16::MAX), refused);
+            }
+        }
+        for q in (0..=255).filter(|q| ![2, 4].contains(q)) {
+            let refused = Err(Outcome::UNKNOWN_CURVE);
+            assert_eq!(short_curve_columns_and_order(q, &[0], 0), refused);
+            assert_eq!(short_curve_columns_and_order(q, &[], 512), refused);
         }
     }
 

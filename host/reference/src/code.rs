@@ -42,22 +42,17 @@ pub fn recover_long(
 
 fn try_encode(curve: Curve, m: u16, message: &[u8], word: &mut [u8]) -> Result<(), Outcome> {
     checks::order(curve, m)?;
-    let code = Code::of_order(curve, m);
-    checks::input_length(message, code.terms.len())?;
-    checks::symbols(code.field, message)?;
-    checks::output_length(word, code.points.len())?;
-    word.copy_from_slice(&code.word_of(message));
-    Ok(())
+    Code::of_order(curve, m).encode(message, word)
 }
 
 fn try_unencode(curve: Curve, m: u16, word: &[u8], message: &mut [u8]) -> Result<(), Outcome> {
-    let code = checked(curve, m, word, message, checks::symbols)?;
-    code.write_only_fitting_message(word, message)
+    checks::order(curve, m)?;
+    Code::of_order(curve, m).unencode(word, message)
 }
 
 fn try_recover(curve: Curve, m: u16, word: &[u8], message: &mut [u8]) -> Result<(), Outcome> {
-    let code = checked(curve, m, word, message, checks::symbols_or_missing)?;
-    code.write_only_fitting_message(word, message)
+    checks::order(curve, m)?;
+    Code::of_order(curve, m).recover(word, message)
 }
 
 fn try_recover_long(
@@ -67,30 +62,15 @@ fn try_recover_long(
     message: &mut [u8],
     work: &mut [u8],
 ) -> Result<(), Outcome> {
-    let code = checked(curve, m, word, message, checks::symbols_or_missing)?;
+    checks::order(curve, m)?;
+    let code = Code::of_order(curve, m);
+    code.check_slices(word, message, checks::symbols_or_missing)?;
     checks::work_length(work)?;
     code.write_only_fitting_message(word, message)
 }
 
-/// The code of the order after the checks 2 to 5. Unencoding and recovery differ
-/// in the values that they allow and in nothing else: a whole word is a broken
-/// word with nothing missing.
-fn checked(
-    curve: Curve,
-    m: u16,
-    word: &[u8],
-    message: &[u8],
-    check_values: fn(Field, &[u8]) -> Result<(), Outcome>,
-) -> Result<Code, Outcome> {
-    checks::order(curve, m)?;
-    let code = Code::of_order(curve, m);
-    checks::input_length(word, code.points.len())?;
-    check_values(code.field, word)?;
-    checks::output_length(message, code.terms.len())?;
-    Ok(code)
-}
-
-/// The code of one order in one series: its terms are what messages have coefficients for.
+/// The code of one order on a list of points: its terms are what messages have
+/// coefficients for.
 pub(crate) struct Code {
     field: Field,
     pub(crate) points: Vec<Point>,
@@ -98,12 +78,53 @@ pub(crate) struct Code {
 }
 
 impl Code {
+    /// On all points of the curve, in its series.
     pub(crate) fn of_order(curve: Curve, m: u16) -> Code {
+        Code::on_columns(curve, &curve.columns(), m)
+    }
+
+    /// On the points of these columns only, in the order of the list.
+    pub(crate) fn on_columns(curve: Curve, columns: &[u8], m: u16) -> Code {
         Code {
             field: curve.field(),
-            points: curve.points(),
+            points: curve.points_of(columns),
             terms: curve.terms(m),
         }
+    }
+
+    /// The checks 3 to 5 and encoding.
+    pub(crate) fn encode(&self, message: &[u8], word: &mut [u8]) -> Result<(), Outcome> {
+        checks::input_length(message, self.terms.len())?;
+        checks::symbols(self.field, message)?;
+        checks::output_length(word, self.points.len())?;
+        word.copy_from_slice(&self.word_of(message));
+        Ok(())
+    }
+
+    /// The checks 3 to 5 and unencoding.
+    pub(crate) fn unencode(&self, word: &[u8], message: &mut [u8]) -> Result<(), Outcome> {
+        self.check_slices(word, message, checks::symbols)?;
+        self.write_only_fitting_message(word, message)
+    }
+
+    /// The checks 3 to 5 and recovery.
+    pub(crate) fn recover(&self, word: &[u8], message: &mut [u8]) -> Result<(), Outcome> {
+        self.check_slices(word, message, checks::symbols_or_missing)?;
+        self.write_only_fitting_message(word, message)
+    }
+
+    /// The checks 3 to 5 of a word to be read. Unencoding and recovery differ in the
+    /// values that they allow and in nothing else: a whole word is a broken word with
+    /// nothing missing.
+    fn check_slices(
+        &self,
+        word: &[u8],
+        message: &[u8],
+        check_values: fn(Field, &[u8]) -> Result<(), Outcome>,
+    ) -> Result<(), Outcome> {
+        checks::input_length(word, self.points.len())?;
+        check_values(self.field, word)?;
+        checks::output_length(message, self.terms.len())
     }
 
     pub(crate) fn word_of(&self, message: &[u8]) -> Vec<u8> {

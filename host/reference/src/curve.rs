@@ -164,18 +164,23 @@ impl Curve {
 
     /// The points column by column, then y ascending; the index is the place.
     pub fn points(self) -> Vec<Point> {
+        self.points_of(&self.columns())
+    }
+
+    /// The points of these columns in the order of the list, then y ascending.
+    pub fn points_of(self, columns: &[u8]) -> Vec<Point> {
         let q = usize::from(self.q);
         let left_side = |y| self.field.sum(self.field.power(y, q), y);
         let symbols = 0..self.field.size();
         let left_sides: Vec<(u8, u8)> = symbols.map(|y| (y, left_side(y))).collect();
-        let column = |x| {
+        let column = |&x: &u8| {
             let right_side = self.field.power(x, q + 1);
             let on_the_curve = left_sides
                 .iter()
                 .filter(move |(_, left)| *left == right_side);
             on_the_curve.map(move |&(y, _)| Point { x, y })
         };
-        self.columns().into_iter().flat_map(column).collect()
+        columns.iter().flat_map(column).collect()
     }
 
     /// The terms of weight up to the order m, by ascending weight.

@@ -8,7 +8,7 @@
 //! by trying every message, or on the larger curve by Gauss elimination and
 //! recovery. The encoder that puts symbols at chosen places inverts the matrix of
 //! the terms' values there, and the converter looks up each point. Long blocks, q = 8,
-//! go the same way as short ones.
+//! and blocks from chosen columns go the same way as short ones.
 
 #![forbid(unsafe_code)]
 
@@ -17,6 +17,8 @@ pub mod blocks;
 pub mod case_record;
 mod checks;
 pub mod checksum;
+pub mod chosen_columns;
+pub mod chosen_columns_sample;
 pub mod code;
 pub mod conversion;
 pub mod conversion_sample;

@@ -23,6 +23,7 @@ impl Outcome {
     pub const BAD_PLACES: Outcome = Outcome::plain(15);
     pub const PLACES_LEAVE_SEVERAL: Outcome = Outcome::plain(16);
     pub const BAD_SERIES: Outcome = Outcome::plain(17);
+    pub const BAD_COLUMNS: Outcome = Outcome::plain(18);
 
     const fn plain(number: u8) -> Outcome {
         Outcome { number, second: 0 }
@@ -83,6 +84,7 @@ mod tests {
             Outcome::BAD_PLACES,
             Outcome::PLACES_LEAVE_SEVERAL,
             Outcome::BAD_SERIES,
+            Outcome::BAD_COLUMNS,
         ];
         // Request T-01: refusal 8 no longer occurs.
         let expected = (0u8..).filter(|&number| number != 8);

@@ -1,5 +1,6 @@
 //! Arbitrary messages and words to try the code on.
 
+pub mod columns;
 pub mod misleading;
 pub mod places;
 
@@ -163,8 +164,8 @@ pub fn with_known_columns(
     known: usize,
 ) -> Vec<u8> {
     let mut broken = word.to_vec();
-    let columns = generator.permutation(usize::from(shape.field_size));
     let q = usize::from(shape.q());
+    let columns = generator.permutation(word.len() / q);
     for column in columns.into_iter().skip(known) {
         let places = broken.iter_mut().skip(q * column).take(q);
         places.for_each(|symbol| *symbol = MISSING);

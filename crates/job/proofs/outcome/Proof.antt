@@ -28,7 +28,7 @@ returns-3 : tie.Need-returns-3
 returns-3 c = sym (ap outcomeOf (c .before .reply .given .1))
 
 returns-4 : tie.Need-returns-4
-returns-4 c = search needs
+returns-4 c = sym (ap outcomeOf (c .before .reply2 .given .1))
 
 pub outcome-spec : {M : Type 1} → statement M
 outcome-spec =

@@ -4,7 +4,7 @@
 use mathlib.Core.Bool.{cond}
 use mathlib.Core.Path.{_≡_}
 use mathlib.Core.List.{List}
-use Prim.Native.Nat.{ℕ, zero, suc, _+_, _-_, _*_, _/_, _≤_, _<_}
+use Prim.Native.Nat.{ℕ, zero, suc, _+_, _-_, _*_, _/_, _^_, _≤_, _<_}
 use lib.Dec.{leb}
 use lib.ListN.{length, getD, take, drop}
 use Rattle.field.specs.Plus.{plus}
@@ -59,6 +59,24 @@ Levels (suc n) F stride tree at columns =
 
 abbrev pub Tree : Field → ℕ → List ℕ → ℕ → List ℕ → Type 0
 Tree F stride tree at columns = (n : ℕ) → Levels n F stride tree at columns
+
+-- what c columns need from at on in a list of the length long: a stride for each level but the last, and there are `levels` of them
+-- at most
+pub record TreeRoom (c stride at long : ℕ) : Type 0 where
+  pub levels : ℕ
+  pub few : c ≤ 2 ^ levels
+  pub wide : 2 * c ≤ stride
+  pub room : at + stride * levels + 2 * c ≤ long + stride
+  pub stride-small : stride ≤ 128
+  pub short : long ≤ 1024
+
+-- i isn't one of the n numbers from `from` on
+abbrev pub Outside : ℕ → ℕ → ℕ → Type 0
+Outside from n i = from ≤ i → i < from + n → ⊥
+
+-- the two lists agree but at the n numbers from at on, the n from at + stride on, and so on
+abbrev pub SameOutside : (stride at n : ℕ) → (tree tree′ : List ℕ) → Type 0
+SameOutside stride at n tree tree′ = (i : ℕ) → ((l : ℕ) → Outside (at + stride * l) n i) → getD tree′ i 0 ≡ getD tree i 0
 
 -- the whole tree: the vanishing polynomial of all columns, and from there on those of the halves
 pub record VanishingTree (F : Field) (columns tree : List ℕ) : Type 0 where

@@ -9,7 +9,7 @@ use reference::outcome::Outcome;
 use reference::sample::{self, Shape};
 
 use crate::comparison::{compare, compare_with, Call, Entry};
-use crate::inputs::{arbitrary_series, write_arbitrary_value, wrong_length};
+use crate::inputs::{arbitrary_series, with_bad_value, write_arbitrary_value, wrong_length};
 use crate::tally::Tally;
 
 fn every_curve_in_both_series() -> impl Iterator<Item = Curve> {
@@ -235,12 +235,12 @@ impl Comparison<'_> {
 
     /// Some symbols before it are missing, and the values behind it are arbitrary.
     fn bad_value(&mut self, curve: Curve, index: usize, value: u8) {
-        let mut word = self.word(curve);
-        let missing = self.generator.below(word.len());
-        word[..index.min(missing)].fill(MISSING);
-        word[index] = value;
-        let rest = self.generator.bytes(word.len() - index - 1);
-        word[index + 1..].copy_from_slice(&rest);
+        let n = curve.point_count();
+        let mut good = self.word(curve);
+        good.truncate(index);
+        let missing = self.generator.below(n);
+        good[..index.min(missing)].fill(MISSING);
+        let word = with_bad_value(good, value, n, self.generator);
         let refusal = Outcome::value_too_high(index as u16);
         self.refused(&conversion(curve, word), refusal);
     }
@@ -268,6 +268,7 @@ pub fn every_curve_number_and_series(generator: &mut Generator) -> Tally {
                 entry: Entry::Convert,
                 q,
                 series,
+                columns: None,
                 m: 0,
                 input: vec![1; length()],
                 output_lengths: vec![length()],

@@ -21,20 +21,28 @@ pub fn at_every_order(generator: &mut Generator, rounds: usize) -> Tally {
 }
 
 fn well_formed_calls(shape: Shape, generator: &mut Generator, tally: &mut Tally) {
+    let entries = [Entry::Encode, Entry::Unencode, Entry::Recover];
+    let inputs = good_inputs(shape, |message| shape.word_of(message), generator);
+    for (entry, inputs) in entries.into_iter().zip(inputs) {
+        for input in inputs {
+            compare(&Call::fitting(entry, shape, input), generator, tally);
+        }
+    }
+}
+
+/// A message to encode; whole words, its own, damaged and arbitrary, to unencode; and
+/// broken words to recover from.
+pub fn good_inputs(
+    shape: Shape,
+    word_of: impl Fn(&[u8]) -> Vec<u8>,
+    generator: &mut Generator,
+) -> [Vec<Vec<u8>>; 3] {
     let message = sample::message(generator, shape);
-    let word = shape.word_of(&message);
+    let word = word_of(&message);
     let damaged = sample::damaged(generator, shape, &word);
     let arbitrary = sample::symbols(generator, shape, shape.n);
-    let mut calls = vec![Call::fitting(Entry::Encode, shape, message)];
-    for whole in [&word, &damaged, &arbitrary] {
-        calls.push(Call::fitting(Entry::Unencode, shape, whole.clone()));
-    }
-    for broken in broken_words(shape, generator, &word) {
-        calls.push(Call::fitting(Entry::Recover, shape, broken));
-    }
-    for call in calls {
-        compare(&call, generator, tally);
-    }
+    let broken = broken_words(shape, generator, &word);
+    [vec![message], vec![word, damaged, arbitrary], broken]
 }
 
 /// A whole word, one with any number of symbols, two near the number where
@@ -94,17 +102,18 @@ pub fn arbitrary_series(generator: &mut Generator) -> u8 {
 /// each curve and with a number that names none; the series by chance.
 pub fn every_curve_number_and_order(generator: &mut Generator) -> Tally {
     let mut tally = Tally::new();
-    for q in 0..=255 {
-        for m in 0..=255 {
-            every_entry(q, either_series(generator), m, generator, &mut tally);
-        }
-    }
-    for q in [2, 3, 4, 8] {
-        for m in 256..=u16::MAX {
-            every_entry(q, either_series(generator), m, generator, &mut tally);
-        }
+    for (q, m) in curve_numbers_with_orders() {
+        every_entry(q, either_series(generator), m, generator, &mut tally);
     }
     tally
+}
+
+/// The pairs of [`every_curve_number_and_order`].
+pub fn curve_numbers_with_orders() -> impl Iterator<Item = (u8, u16)> {
+    let low_orders = (0..=255).flat_map(|q| (0..=255).map(move |m| (q, m)));
+    let curves = [2, 3, 4, 8].into_iter();
+    let high_orders = curves.flat_map(|q| (256..=u16::MAX).map(move |m| (q, m)));
+    low_orders.chain(high_orders)
 }
 
 /// Every series number, with good and bad curve numbers and orders, and with the
@@ -147,6 +156,7 @@ fn every_entry(q: u8, series: u8, m: u16, generator: &mut Generator, tally: &mut
             entry,
             q,
             series,
+            columns: None,
             m,
             input: vec![0; length(0)],
             output_lengths: (0..entry.output_count()).map(length).collect(),
@@ -187,7 +197,8 @@ pub fn faulty(generator: &mut Generator, rounds: usize) -> Tally {
     tally
 }
 
-fn faulty_call(entry: Entry, shape: Shape, generator: &mut Generator) -> Call {
+/// With one fault or several, or none.
+pub fn faulty_call(entry: Entry, shape: Shape, generator: &mut Generator) -> Call {
     let input_length = entry.input_length(shape);
     let input = sample::symbols(generator, shape, input_length);
     let mut call = Call::fitting(entry, shape, input);
@@ -266,6 +277,37 @@ pub fn write_arbitrary_value(input: &mut [u8], shape: Shape, generator: &mut Gen
     if let Some(symbol) = input.get_mut(index) {
         *symbol = value;
     }
+}
+
+/// Makes a list of numbers that must ascend and be low bad: too many, too few, in
+/// another order, repeated or too high. Now and then it is still a good one.
+pub fn spoil<Number: Copy>(
+    list: &mut Vec<Number>,
+    one_more: Vec<Number>,
+    too_high: Number,
+    generator: &mut Generator,
+) {
+    let (one, other) = (generator.below(list.len()), generator.below(list.len()));
+    match generator.below(6) {
+        0 => list.resize(wrong_length(list.len(), generator), list[list.len() - 1]),
+        1 => *list = one_more,
+        2 => list.truncate(one),
+        3 => list.swap(one, other),
+        4 => list[one] = list[other],
+        _ => list[one] = too_high,
+    }
+}
+
+/// Good values, then a bad one, then arbitrary ones, `length` in all.
+pub fn with_bad_value(
+    mut values: Vec<u8>,
+    bad: u8,
+    length: usize,
+    generator: &mut Generator,
+) -> Vec<u8> {
+    values.push(bad);
+    values.extend(generator.bytes(length - values.len()));
+    values
 }
 
 /// The strap's own order in both series in turn, words with 0 to 64 missing, sometimes

@@ -7,7 +7,7 @@ use reference::generator::Generator;
 use reference::outcome::Outcome;
 use reference::sample::{self, Shape};
 
-use crate::comparison::{compare, compare_with, Call, Entry};
+use crate::comparison::{compare, compare_with, written, Call, Entry};
 use crate::guarded::Guarded;
 use crate::inputs::{arbitrary_series, either_series};
 use crate::tally::Tally;
@@ -145,17 +145,6 @@ impl Comparison<'_> {
         }
         let Recovery { series, m, .. } = *recovery;
         self.tally.count(Entry::RecoverLong, 8, series, m, number);
-    }
-}
-
-/// Writes what is expected and gives its answer.
-fn written(message: &mut [u8], expected: Result<&[u8], Outcome>) -> u32 {
-    match expected {
-        Ok(right) => {
-            message.copy_from_slice(right);
-            0
-        }
-        Err(refusal) => refusal.packed(),
     }
 }
 
@@ -300,6 +289,7 @@ impl Comparison<'_> {
             entry,
             q: 8,
             series: self.series(shape),
+            columns: None,
             m: self.order(shape),
             input: self.faulty_input(shape, length),
             output_lengths: vec![self.wrong_length(output_length)],

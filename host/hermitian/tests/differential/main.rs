@@ -1,6 +1,8 @@
 //! The library through its C entries beside the reference, on every kind of
 //! call. Set HERMITIAN_SEED to repeat a run.
 
+mod column_faults;
+mod columns;
 mod comparison;
 mod converting;
 mod encoding_at;
@@ -23,13 +25,14 @@ const LEAST_MEND_CALLS: u64 = 100_000;
 const LEAST_LONG_RECOVERIES: u64 = 70_000;
 const LEAST_CALLS_WITH_PLACES: u64 = 100_000;
 const LEAST_CONVERSIONS: u64 = 100_000;
+const LEAST_CALLS_ON_COLUMNS: u64 = 500_000;
 
 type Group = (&'static str, fn(&mut Generator) -> Tally);
 
 /// The mix follows what the reference costs: some microseconds at q = 2, up
 /// to some milliseconds at the high orders of q = 4, and up to 0.1 s for one
 /// elimination at q = 8.
-const GROUPS: [Group; 28] = [
+const GROUPS: [Group; 34] = [
     ("every order", |g| inputs::at_every_order(g, 12)),
     ("strap blocks", |g| inputs::strap_blocks(g, 6_500)),
     ("faulty calls", |g| inputs::faulty(g, 80_000)),
@@ -66,6 +69,17 @@ const GROUPS: [Group; 28] = [
         "converting, every q and series",
         converting::every_curve_number_and_series,
     ),
+    ("columns, every order", |g| columns::at_every_order(g, 4)),
+    ("columns, beside plain calls", |g| {
+        columns::beside_plain_calls(g, 20)
+    }),
+    ("columns, small words", columns::every_small_word),
+    ("columns, faulty calls", |g| column_faults::faulty(g, 30)),
+    ("columns, every fault", column_faults::every_fault),
+    (
+        "columns, every q and m",
+        column_faults::every_curve_number_and_order,
+    ),
 ];
 
 #[test]
@@ -82,6 +96,9 @@ fn the_library_answers_as_the_reference() {
     assert!(all.calls_of(Entry::RecoverLong) >= LEAST_LONG_RECOVERIES);
     assert!(all.calls_of(Entry::EncodeAt) >= LEAST_CALLS_WITH_PLACES);
     assert!(all.calls_of(Entry::Convert) >= LEAST_CONVERSIONS);
+    for entry in Entry::ON_COLUMNS {
+        assert!(all.calls_of(entry) >= LEAST_CALLS_ON_COLUMNS);
+    }
     every_answer_occurred(&all);
     every_order_was_accepted(&all);
 }
@@ -128,29 +145,41 @@ fn say(line: &str) {
 /// messages; 11 and 12 are those of mending, which has no 9 and no 10; 13 is the
 /// field's; 14 is that of long recovery, which names no curve and so has no 1; 15 and
 /// 16 are those of encoding at places, where k symbols always have a word otherwise;
-/// the converter takes no order and any word.
+/// the converter takes no order and any word; 18 is that of the calls on chosen columns,
+/// which name no series and so have no 17.
 fn every_answer_occurred(tally: &Tally) {
     for entry in Entry::ALL {
-        for number in 0..=17 {
-            let possible = match number {
-                1 => entry != Entry::RecoverLong,
-                2 => entry != Entry::Convert,
-                0..=5 | 17 => true,
-                9 => matches!(entry, Entry::Unencode | Entry::Recover | Entry::RecoverLong),
-                10 => matches!(entry, Entry::Recover | Entry::RecoverLong),
-                11 | 12 => entry == Entry::Mend,
-                14 => entry == Entry::RecoverLong,
-                15 | 16 => entry == Entry::EncodeAt,
-                _ => false,
-            };
+        for number in 0..=18 {
             let count = tally.of(entry, number);
+            let possible = is_possible(entry, number);
             assert_eq!(count > 0, possible, "{} {number}", entry.name());
         }
     }
 }
 
+fn is_possible(entry: Entry, number: u8) -> bool {
+    let recovers = matches!(
+        entry,
+        Entry::Recover | Entry::RecoverLong | Entry::RecoverOn
+    );
+    match number {
+        1 => entry != Entry::RecoverLong,
+        2 => entry != Entry::Convert,
+        0 | 3..=5 => true,
+        9 => recovers || matches!(entry, Entry::Unencode | Entry::UnencodeOn),
+        10 => recovers,
+        11 | 12 => entry == Entry::Mend,
+        14 => entry == Entry::RecoverLong,
+        15 | 16 => entry == Entry::EncodeAt,
+        17 => !Entry::ON_COLUMNS.contains(&entry),
+        18 => Entry::ON_COLUMNS.contains(&entry),
+        _ => false,
+    }
+}
+
 /// From the order n - g on nothing is mended. Recovery of long blocks is a call of
-/// its own, and they aren't mended. The converter takes no order.
+/// its own, and they aren't mended. The converter takes no order. The calls on chosen
+/// columns count as calls of series 1.
 fn every_order_was_accepted(tally: &Tally) {
     for (entry, series) in Entry::ALL.map(|entry| [(entry, 1), (entry, 2)]).concat() {
         for (q, n, g) in [(2, 8, 1), (4, 64, 6), (8, 512, 28)] {
@@ -161,6 +190,7 @@ fn every_order_was_accepted(tally: &Tally) {
                     Entry::Mend => q != 8 && m < n - g,
                     Entry::RecoverLong => q == 8,
                     Entry::Convert => m == 0,
+                    Entry::EncodeOn | Entry::UnencodeOn | Entry::RecoverOn => q != 8 && series == 1,
                 };
                 let count = tally.accepted_at(entry, q, series, m);
                 let name = entry.name();

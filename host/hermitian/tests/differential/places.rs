@@ -11,8 +11,8 @@ use reference::sample::{self, Shape};
 
 use crate::encoding_at::{Comparison, Encoding};
 use crate::inputs::{
-    arbitrary_order, arbitrary_series, either_series, strap_in_both_series, write_arbitrary_value,
-    wrong_length,
+    arbitrary_order, arbitrary_series, curve_numbers_with_orders, either_series, spoil,
+    strap_in_both_series, with_bad_value, write_arbitrary_value, wrong_length,
 };
 use crate::tally::Tally;
 
@@ -133,10 +133,7 @@ impl Comparison<'_> {
 /// some orders.
 pub fn every_curve_number_and_order(generator: &mut Generator) -> Tally {
     let mut comparison = Comparison::new(generator);
-    let low_orders = (0..=255).flat_map(|q| (0..=255).map(move |m| (q, m)));
-    let curves = [2, 3, 4, 8].into_iter();
-    let high_orders = curves.flat_map(|q| (256..=u16::MAX).map(move |m| (q, m)));
-    for (q, m) in low_orders.chain(high_orders) {
+    for (q, m) in curve_numbers_with_orders() {
         let series = either_series(comparison.generator);
         comparison.encode_zeros(q, series, m);
     }
@@ -203,7 +200,10 @@ fn faulty_encoding(shape: Shape, generator: &mut Generator) -> Encoding {
         encoding.m = arbitrary_order(shape, generator);
     }
     if generator.below(4) == 0 {
-        spoil(&mut encoding.places, shape, generator);
+        let one_more = (0..shape.k as u16 + 1).collect();
+        let too_high = sample::numbers_too_high(shape.curve);
+        let too_high = too_high[generator.below(too_high.len())];
+        spoil(&mut encoding.places, one_more, too_high, generator);
     }
     if generator.below(4) == 0 {
         let length = wrong_length(shape.k, generator);
@@ -216,21 +216,6 @@ fn faulty_encoding(shape: Shape, generator: &mut Generator) -> Encoding {
         encoding.word_length = wrong_length(shape.n, generator);
     }
     encoding
-}
-
-/// Too many, too few, in another order, repeated or too high; now and then the list
-/// is still a good one.
-fn spoil(list: &mut Vec<u16>, shape: Shape, generator: &mut Generator) {
-    let too_high = sample::numbers_too_high(shape.curve);
-    let (one, other) = (generator.below(list.len()), generator.below(list.len()));
-    match generator.below(6) {
-        0 => list.resize(wrong_length(shape.k, generator), shape.n as u16 - 1),
-        1 => *list = (0..shape.k as u16 + 1).collect(),
-        2 => list.truncate(one),
-        3 => list.swap(one, other),
-        4 => list[one] = list[other],
-        _ => list[one] = too_high[generator.below(too_high.len())],
-    }
 }
 
 /// One fault alone, of every kind, at every order in both series: in each item of the places and of
@@ -283,9 +268,8 @@ impl Comparison<'_> {
 
     /// The values behind it are arbitrary.
     fn bad_symbol(&mut self, shape: Shape, places: &[u16], index: usize, value: u8) {
-        let mut symbols = sample::symbols(self.generator, shape, index);
-        symbols.push(value);
-        symbols.extend(self.generator.bytes(shape.k - index - 1));
+        let good = sample::symbols(self.generator, shape, index);
+        let symbols = with_bad_value(good, value, shape.k, self.generator);
         let refusal = Outcome::value_too_high(index as u16);
         self.refused(shape, places.to_vec(), symbols, refusal);
     }

@@ -4,7 +4,7 @@ use std::fmt;
 
 use crate::comparison::Entry;
 
-const NUMBERS: usize = 18;
+const NUMBERS: usize = 19;
 const SERIES: usize = 2;
 const CURVES: usize = 3;
 const ORDERS: usize = 512;
@@ -85,12 +85,12 @@ fn series_index(series: u8) -> usize {
 impl fmt::Display for Tally {
     fn fmt(&self, f: &mut fmt::Formatter<'_>) -> fmt::Result {
         writeln!(f, "{} calls compared; by refusal number:", self.total())?;
-        write!(f, "{:>9}", "")?;
+        write!(f, "{:>11}", "")?;
         for number in 0..NUMBERS {
             write!(f, "{number:>9}")?;
         }
         for entry in Entry::ALL {
-            write!(f, "\n{:>9}", entry.name())?;
+            write!(f, "\n{:>11}", entry.name())?;
             for count in self.answers[entry as usize] {
                 write!(f, "{count:>9}")?;
             }

@@ -2,6 +2,7 @@
 //! The module `case_record` says how both are laid out.
 
 use reference::case_record::{Case, Runner, SLICE_ROOM};
+use reference::chosen_columns_sample::chosen_columns_cases;
 use reference::code::MISSING;
 use reference::curve::{Curve, Series};
 use reference::file_pair;
@@ -27,11 +28,19 @@ fn main() -> ExitCode {
     file_pair::write_to_arguments("cases CASE_FILE EXPECTED_FILE", &records, &expected)
 }
 
+/// Those from before request T-12 come first: that they and their lines stay as they
+/// were shows that the older calls give what they gave.
+fn all_cases() -> Vec<Case> {
+    let mut cases = cases_before_chosen_columns();
+    cases.extend(chosen_columns_cases());
+    cases
+}
+
 /// Those from before request T-11 come first: that they and their lines stay as they
 /// were shows that series 1 gives what the calls gave before there were two. Then
 /// come the same with series 2, but for field operations, which name none, and the
 /// cases of numbers that name no series and of the converter.
-fn all_cases() -> Vec<Case> {
+fn cases_before_chosen_columns() -> Vec<Case> {
     let mut cases = cases_of_series(Series::One);
     cases.extend(refused_openings());
     let of_series_2 = cases_of_series(Series::Two).into_iter();
@@ -673,9 +682,9 @@ mod tests {
     }
 
     #[test]
-    fn there_are_about_59000_cases_and_each_fits_its_record() {
+    fn there_are_about_65000_cases_and_each_fits_its_record() {
         let cases = all_cases();
-        assert!((58000..=60000).contains(&cases.len()), "{}", cases.len());
+        assert!((64000..=66000).contains(&cases.len()), "{}", cases.len());
         for case in &cases {
             let record: [u8; RECORD_LENGTH] = case.to_record();
             assert_eq!(&Case::from_record(&record), case);
@@ -726,6 +735,16 @@ mod tests {
         assert_eq!(all_cases()[..29_257], before);
         assert_eq!(checksum(&records(&before)), 0x48F0_D8D8_5DAB_3F69);
         assert_eq!(checksum(lines(&before).as_bytes()), 0x3B53_6B38_3DBF_8264);
+    }
+
+    /// The cases from before request T-12 and their lines, by number and checksum.
+    #[test]
+    fn the_cases_before_chosen_columns_come_first_and_are_unchanged() {
+        let before = cases_before_chosen_columns();
+        assert_eq!(before.len(), 59_124);
+        assert_eq!(all_cases()[..59_124], before);
+        assert_eq!(checksum(&records(&before)), 0x175E_6326_3785_BE45);
+        assert_eq!(checksum(lines(&before).as_bytes()), 0x8091_F2AA_CC97_703E);
     }
 
     /// Those of field operations apart. At q = 4 most messages have another word.
@@ -855,6 +874,9 @@ mod tests {
             ("p", vec![0, 1, 2, 5, 9, 10, 17]),
             ("t", vec![0, 1, 2, 3, 4, 5, 9, 10, 17]),
             ("E", vec![0, 1, 2, 3, 4, 5, 15, 16, 17]),
+            ("X", vec![0, 1, 2, 3, 4, 5, 18]),
+            ("U", vec![0, 1, 2, 3, 4, 5, 9, 18]),
+            ("R", vec![0, 1, 2, 3, 4, 5, 9, 10, 18]),
         ];
         possible
             .into_iter()

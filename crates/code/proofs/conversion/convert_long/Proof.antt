@@ -1,6 +1,7 @@
 -- `code::conversion::convert_long` meets its contract: all columns are moved.
 -- Assumes nothing.
 use mathlib.Core.Path.{_≡_, ap, _∙_}
+use native.Mathlib.Omega.{arith}
 use borrow.Author.Needs.{needs}
 use denote.Ref.{now}
 use Rattle.field.proofs.Curves.{long-curve}
@@ -32,7 +33,7 @@ move-columns-requires : tie.Need-move-columns-requires
 move-columns-requires c κs =
     let d = c .before .before .before in
     let s = d .before .before .before .before .before in
-    (movable 8 (s .args .series) long-curve _ _ (from-are d) (d .long-columns2 .ensures), s .pre)
+    (movable 8 (s .args .series) long-curve _ _ (from-are d) (d .long-columns2 .ensures) (now (s .args .word)) (s .pre .0), (omega (arith, s .pre .0), s .pre .1))
 
 same-length : tie.Need-same-length
 same-length c = search needs
@@ -41,7 +42,7 @@ returns : tie.Need-returns
 returns c =
     let d = c .before .before .before .before .before .before in
     let s = d .before .before .before .before .before in
-    moved-all 8 (s .args .series) long-curve _ _ (from-are d) (d .long-columns2 .ensures) (now (s .args .word)) _
+    moved-all 8 (s .args .series) long-curve _ _ (from-are d) (d .long-columns2 .ensures) (now (s .args .word)) (now (s .args .out)) _
     (c .before .before .move-columns .ensures)
 
 pub convert-long-spec : {M : Type 1} → statement M

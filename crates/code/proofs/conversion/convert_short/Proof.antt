@@ -61,7 +61,7 @@ move-columns-requires : tie.Need-move-columns-requires
 move-columns-requires c κs =
     let d = c .before .before .before in
     let s = d .before .before .before .before .before in
-    (movable (s .args .q) (s .args .series) (short-curve _ (s .pre .0)) _ _ (from-are d) (to-are d), (s .pre .1, s .pre .2))
+    (movable (s .args .q) (s .args .series) (short-curve _ (s .pre .0)) _ _ (from-are d) (to-are d) (now (s .args .word)) (s .pre .1), (omega (arith, s .pre .1), s .pre .2))
 
 same-length : tie.Need-same-length
 same-length c = search needs
@@ -70,7 +70,7 @@ returns : tie.Need-returns
 returns c =
     let d = c .before .before .before .before .before .before in
     let s = d .before .before .before .before .before in
-    moved-all (s .args .q) (s .args .series) (short-curve _ (s .pre .0)) _ _ (from-are d) (to-are d) (now (s .args .word)) _
+    moved-all (s .args .q) (s .args .series) (short-curve _ (s .pre .0)) _ _ (from-are d) (to-are d) (now (s .args .word)) (now (s .args .out)) _
     (c .before .before .move-columns .ensures)
 
 pub convert-short-spec : {M : Type 1} → statement M

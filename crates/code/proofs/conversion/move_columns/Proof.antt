@@ -12,7 +12,7 @@ use Rattle.code.proofs.conversion.move_columns.Statement.{statement}
 use Rattle.code.proofs.conversion.move_columns.Tie as tie
 
 abbrev Inv-loop : tie.InvT-loop
-Inv-loop q from to word out₀ width t₀ out t = (t ≤ length from) × Moved q from to word out t
+Inv-loop q from to word out₀ width t₀ out t = (t ≤ length from) × Moved q from to word out₀ out t
 
 abbrev μ-loop : tie.MeasureT-loop
 μ-loop q from to word out₀ width t₀ out t = length from - t
@@ -20,8 +20,8 @@ abbrev μ-loop : tie.MeasureT-loop
 -- the column's parts are within the word and within out, which are short
 fits : (c : tie.In-loop Inv-loop μ-loop) → let x = c .before .before .before .before .before .before .args in let l = c .before .loop in
     (x .q * getD (now (x .from)) (l .t) 0 + x .q ≤ length (now (x .word)))
-    × (x .q * getD (now (x .to)) (l .t) 0 + x .q ≤ length (now (x .word)))
-    × (length (l .out) ≡ length (now (x .word)))
+    × (x .q * getD (now (x .to)) (l .t) 0 + x .q ≤ length (l .out))
+    × (length (l .out) ≤ 512)
     × (length (now (x .word)) ≤ 512)
     × (l .t < length (now (x .to)))
 fits c =
@@ -29,10 +29,10 @@ fits c =
     let x = s .args in
     let l = c .before .loop in
     let k : l .t < length (now (x .to)) = omega (arith, c .loop-test .taken, s .pre .0 .2) in (
-      omega (arith, part-fits (x .q) (now (x .from)) (s .pre .0 .0) (l .t) (c .loop-test .taken), s .pre .1 .0),
-      omega (arith, part-fits (x .q) (now (x .to)) (s .pre .0 .1) (l .t) k, s .pre .1 .0),
-      l .inv .1 .long ∙ sym (s .pre .1 .0),
-      omega (arith, sizes (x .q) (s .pre .0 .0 .curve) .points, s .pre .1 .0),
+      s .pre .0 .0 (l .t) (c .loop-test .taken),
+      omega (arith, part-fits (x .q) (now (x .to)) (s .pre .0 .1) (l .t) k, l .inv .1 .long),
+      omega (arith, sizes (x .q) (s .pre .0 .1 .curve) .points, l .inv .1 .long),
+      omega (arith, sizes (x .q) (s .pre .0 .1 .curve) .points, s .pre .1 .0),
       k,
     )
 
@@ -101,7 +101,7 @@ loop-again c =
     let l = d .before .loop in
     let e = c .before .before .copy in (
       omega arith,
-      moved-more (x .q) (now (x .from)) (now (x .to)) (now (x .word)) (l .out) (e .last .1 .1 .0) (l .t) (s .pre .0 .1) (fits d .4) (l .inv .1) (e .ensures),
+      moved-more (x .q) (now (x .from)) (now (x .to)) (now (x .word)) (now (x .out)) (l .out) (e .last .1 .1 .0) (l .t) (s .pre .0 .1) (fits d .4) (l .inv .1) (e .ensures),
     )
 
 same-length : tie.Need-same-length Inv-loop μ-loop
@@ -112,7 +112,7 @@ returns c =
     let x = c .before .before .before .before .before .before .args in
     let l = c .before .loop in
     let e : l .t ≡ length (now (x .from)) = omega arith in
-    subst (Moved (x .q) (now (x .from)) (now (x .to)) (now (x .word)) (l .out)) e (l .inv .1)
+    subst (Moved (x .q) (now (x .from)) (now (x .to)) (now (x .word)) (now (x .out)) (l .out)) e (l .inv .1)
 
 pub move-columns-spec : {M : Type 1} → statement M
 move-columns-spec =

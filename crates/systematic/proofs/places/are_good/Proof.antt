@@ -4,12 +4,13 @@ use Prim.Native.Nat.{_-_}
 use native.Mathlib.Omega.{arith}
 use borrow.Author.Needs.{needs}
 use lib.ListN.{length}
-use Rattle.systematic.proofs.PlaceLists.{Ascending, ascending-none, ascending-turn, not-ascending, not-below, are-good, not-many}
+use Rattle.poly.proofs.Ascending.{FirstAscend, first-none, first-turn, not-ascending, not-below, all-ascend}
+use Rattle.systematic.proofs.PlaceLists.{are-good, not-many, not-good}
 use Rattle.systematic.proofs.places.are_good.Statement.{statement}
 use Rattle.systematic.proofs.places.are_good.Tie as tie
 
 abbrev Inv-loop : tie.InvT-loop
-Inv-loop k n places least₀ i₀ least i = Ascending k n places least i
+Inv-loop k n places least₀ i₀ least i = FirstAscend n places least i
 
 abbrev μ-loop : tie.MeasureT-loop
 μ-loop k n places least₀ i₀ least i = length places - i
@@ -18,7 +19,7 @@ returns : tie.Need-returns Inv-loop μ-loop
 returns c = not-many _ _ _ (c .if1 .taken)
 
 loop-holds : tie.Need-loop-holds Inv-loop μ-loop
-loop-holds c = ascending-none _ _ _
+loop-holds c = first-none _ _
 
 mul-p : tie.Need-mul-p Inv-loop μ-loop
 mul-p c = search needs
@@ -30,10 +31,10 @@ cast-p : tie.Need-cast-p Inv-loop μ-loop
 cast-p c = omega (arith, c .shared-slice-known .given (c .before .before .loop .i))
 
 returns-2 : tie.Need-returns-2 Inv-loop μ-loop
-returns-2 c = let l = c .before .before .before .loop in not-ascending _ _ _ (l .least) (l .i) (l .inv) (omega arith) (c .if2 .taken)
+returns-2 c = let l = c .before .before .before .loop in not-good _ _ _ (not-ascending _ _ (l .least) (l .i) (l .inv) (omega arith) (c .if2 .taken))
 
 returns-3 : tie.Need-returns-3 Inv-loop μ-loop
-returns-3 c = let l = c .before .before .before .before .loop in not-below _ _ _ (l .least) (l .i) (l .inv) (omega arith) (c .if3 .taken)
+returns-3 c = let l = c .before .before .before .before .loop in not-good _ _ _ (not-below _ _ (l .least) (l .i) (l .inv) (omega arith) (c .if3 .taken))
 
 add-least : tie.Need-add-least Inv-loop μ-loop
 add-least c = omega (arith, c .if3 .left)
@@ -47,12 +48,12 @@ loop-less c = omega arith
 loop-again : tie.Need-loop-again Inv-loop μ-loop
 loop-again c =
     let l = c .before .before .before .before .loop in
-    ascending-turn _ _ _ (l .least) (l .i) (l .inv) (omega arith) (omega (arith, c .before .if2 .left)) (omega (arith, c .if3 .left))
+    first-turn _ _ (l .least) (l .i) (l .inv) (omega arith) (omega (arith, c .before .if2 .left)) (omega (arith, c .if3 .left))
 
 returns-4 : tie.Need-returns-4 Inv-loop μ-loop
 returns-4 c =
     let l = c .before .loop in
-    are-good _ _ _ (l .least) (l .i) (l .inv) (omega (arith, c .before .before .if1 .left)) (omega (arith, c .loop-test .left))
+    are-good _ _ _ (omega (arith, c .before .before .if1 .left)) (all-ascend _ _ (l .least) (l .i) (l .inv) (omega (arith, c .loop-test .left)))
 
 pub are-good-spec : {M : Type 1} → statement M
 are-good-spec =

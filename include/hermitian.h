@@ -69,9 +69,9 @@
  * number of threads may call at once, each with output buffers of its own; they
  * may share an input. As built now, a call on a short block takes less than
  * 12 KiB of stack (measured and not proved, in bytes: to encode at places 12144, and
- * 7040 for q = 4 and an m up to 37; 10336 to mend, and of the other calls 6480 at most,
- * to recover), one on a long block less than 14 KiB; from the platform it needs memcpy
- * and memset.
+ * 7040 for q = 4 and an m up to 37; 10352 to mend, and of the other calls 6512 at most,
+ * to recover on chosen columns), one on a long block less than 14 KiB; from the platform
+ * it needs memcpy and memset.
  *
  * Linking. `rt staticlib hermitian` writes target/staticlib/libhermitian.a, for
  * x86-64, with all entries but hermitian_recover_long, which `rt staticlib

@@ -1,4 +1,6 @@
 // Recovery in turns as a C call, for the benchmark in host/bench and for nothing else: what the app calls is in the crate hermitian.
+#![tactic(auto)]
+
 ghost use Rattle.std.specs.Prelude.{◌≡◌};
 ghost use Rattle.field.specs.Outcomes.{packed};
 ghost use Rattle.code.specs.Recovered.{recovered};

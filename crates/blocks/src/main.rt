@@ -1,4 +1,6 @@
 // Reads records of 64 bytes from standard input and prints a line for each.
+#![tactic(auto)]
+
 ghost use Rattle.std.specs.Prelude.{◌+◌, ◌<◌, ◌^◌};
 
 use libc::{STDIN_FILENO, STDOUT_FILENO};

@@ -1,4 +1,6 @@
 // The parts of the lines that the programs of cases print.
+#![tactic(auto)]
+
 ghost use Rattle.std.specs.Prelude.{◌≤◌};
 
 use field::Outcome;

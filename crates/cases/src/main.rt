@@ -1,5 +1,7 @@
 // Runs the public entries on the cases of standard input, records of 160 bytes, and prints a line for each.
 // The module `case_record` of host/reference has the layout of a record and of its line.
+#![tactic(auto)]
+
 ghost use Rattle.std.specs.Prelude.{◌≡◌, ◌≤◌, length};
 
 use case_lines::{number, print_answer, print_byte, print_number, print_values};

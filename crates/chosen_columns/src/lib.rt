@@ -1,4 +1,6 @@
 // Short blocks over chosen columns: a word has q symbols for each column of a list, and none for the others.
+#![tactic(auto)]
+
 ghost use Rattle.std.specs.Prelude.{◌≡◌, ◌≤◌, length};
 ghost use Rattle.field.specs.Curve.{IsShort};
 ghost use Rattle.field.proofs.Fields.{field_of};

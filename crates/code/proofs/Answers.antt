@@ -6,20 +6,17 @@ use mathlib.Core.Logic.{⊎_elim}
 use mathlib.Core.Path.{◌≡◌, refl, sym, ap, ◌∙◌}
 use Prim.Native.Nat.{ℕ}
 use lib.Dec.{eqb}
-use types.Run.{OneOf}
-use denote.Enum.Declared.{tag_of}
 use Rattle.field.specs.Outcomes.{number}
 use Rattle.field.specs.declared.outcome.Outcome.{Outcome}
 use Rattle.field.specs.declared.outcome.Outcome.TheVariants.{Done}
-use Rattle.field.proofs.Outcomes.{done_or_refused, refusals, not_done, done_or_not, row_refused}
-use Rattle.field.specs.contracts.outcome.Outcome.{the_type}
+use Rattle.field.proofs.Outcomes.{done_or_refused, not_done, done_or_not, row_refused}
 use Rattle.code.specs.Checks.{order_checks, slice_checks}
 use Rattle.code.specs.Answers.{Answer, answered, unless_refused}
 use Rattle.code.proofs.Checks.{order_follows}
 
 -- a refusal, as the arm that returns it is told of it
 abbrev pub Refused : Outcome → Type 0
-Refused o = OneOf refusals (tag_of the_type o)
+Refused o = (o ≡ Done → ⊥)
 
 pub refused : (checked o : Outcome) (slice : List ℕ) (answer : Answer) → checked ≡ o → eqb (number o) 0 ≡ false
     → unless_refused checked slice answer ≡ answered o slice

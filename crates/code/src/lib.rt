@@ -1,4 +1,6 @@
 // The curve, its words, and their encoding and unencoding.
+#![tactic(auto)]
+
 pub mod check;
 pub mod conversion;
 pub mod encoding;

@@ -8,7 +8,7 @@ ghost use Rattle.code.specs.Inner.Grid.{WeightOfTerm, entries_of};
 
 use field::Curve;
 
-#[derive(Drop)]
+#[derive(Clone, Copy)]
 pub struct Quotient {
     pub whole: usize,
     pub rest: usize,

@@ -1,5 +1,7 @@
 // Checking a word without reading it: it is a codeword of order m exactly when, against every codeword of the partner order, the
 // place-by-place products add up to 0.
+#![tactic(auto)]
+
 ghost use Rattle.std.specs.Prelude.{◌≡◌, ◌<◌};
 ghost use Rattle.points.specs.Series.{columns_of};
 ghost use Rattle.code.specs.Inner.Readable.{WordOver};
@@ -11,7 +13,7 @@ use field::{Curve, Outcome};
 pub mod term_sums;
 
 // Whether the word is a codeword, which is said only where the check isn't refused, and the outcome.
-#[derive(Drop)]
+#[derive(Clone, Copy)]
 pub struct Verdict {
     pub codeword: bool,
     pub outcome: Outcome,

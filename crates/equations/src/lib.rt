@@ -1,4 +1,6 @@
 // The equations that the symbols of a short block's broken word give, in the unknown symbols of its message, brought one by one into a linear system.
+#![tactic(auto)]
+
 ghost use Rattle.std.specs.Prelude.{◌≡◌, ◌*◌, ◌≤◌, ◌<◌, length};
 ghost use Rattle.field.specs.Curve.{IsShort};
 ghost use Rattle.field.specs.Power.{power};
@@ -17,7 +19,7 @@ use linear::system::Effect;
 use poly::rows;
 
 // The rows of a system after a symbol was brought in, and whether that contradicts the others.
-#[derive(Drop)]
+#[derive(Clone, Copy)]
 pub struct Progress {
     pub clash: bool,
     pub rank: usize,

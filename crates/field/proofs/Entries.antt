@@ -8,8 +8,6 @@ use native.Mathlib.Omega.{arith}
 use lib.Dec.{leb, ltb, lit<}
 use lib.Pow.{pow_pos}
 use lib.ListN.{length, get_or}
-use types.Run.{OneOf}
-use denote.Enum.Declared.{tag_of}
 use borrow.Author.Tests.{lt-leb, ltb-false, not-false}
 use Rattle.field.specs.Curve.{is_curve, bits_of}
 use Rattle.field.specs.Outcomes.{number, refuse}
@@ -18,10 +16,9 @@ use Rattle.field.specs.Entries.{field_checks, answer}
 use Rattle.field.specs.declared.entry.Answer.{Answer}
 use Rattle.field.specs.declared.outcome.Outcome.{Outcome}
 use Rattle.field.specs.declared.outcome.Outcome.TheVariants.{Done, BadCurve, BadValue}
-use Rattle.field.specs.contracts.outcome.Outcome.{the_type}
 use Rattle.field.proofs.Curves.{curve_of_true, sizes}
 use Rattle.field.proofs.Values.{symbol_of_good, all_good}
-use Rattle.field.proofs.Outcomes.{passed, refusals, not_done, Follows, none_follow, refuse_follows}
+use Rattle.field.proofs.Outcomes.{passed, not_done, Follows, none_follow, refuse_follows}
 
 -- ---- operands
 
@@ -59,7 +56,7 @@ made s o = record { symbol = s; outcome = o }
 pub done : {o p : Outcome} {s t : ℕ} → o ≡ p → o ≡ Done → s ≡ t → made s o ≡ answer p t
 done {t = t} op od st = ap₂ made st od ∙ ap (λ (o : Outcome). answer o t) (sym od ∙ op)
 
-pub refused : {o p : Outcome} (t : ℕ) → o ≡ p → OneOf refusals (tag_of the_type o) → made 0 o ≡ answer p t
+pub refused : {o p : Outcome} (t : ℕ) → o ≡ p → (o ≡ Done → ⊥) → made 0 o ≡ answer p t
 refused {o} t op k = sym (ap (λ (b : Bool). made (cond b t 0) o) (not_done o k)) ∙ ap (λ (x : Outcome). answer x t) op
 
 -- ---- the checks of one operand, and what follows them

@@ -1,20 +1,16 @@
 -- Checks in a row, and refusals as an arm of the code is told of them.
 -- Assumes nothing.
 use mathlib.Core.Bool.{Bool, true, false, cond}
-use mathlib.Core.List.{List, [], ◌∷◌}
 use mathlib.Core.Logic.{◌↔◌, ◌⊎◌, inl, inr, ⊎_elim}
 use mathlib.Core.Path.{◌≡◌, refl, sym, ap, ◌∙◌}
 use Prim.Native.Nat.{ℕ}
 use native.Mathlib.Omega.{arith}
 use lib.Dec.{eqb}
-use types.Run.{OneOf, miss}
-use denote.Enum.Declared.{tag_of}
 use Rattle.field.specs.Outcomes.{number, second, Says, refuse}
 use Rattle.field.specs.declared.outcome.Outcome.{Outcome}
 use Rattle.field.specs.declared.outcome.Outcome.TheVariants.{Done, BadCurve, BadOrder, BadLength, BadValue, BadRoom, BadPlace}
 use Rattle.field.specs.declared.outcome.Outcome.TheVariants.{BadSymbol, NoMessage, Several, NoneNear, NoRadius, InverseOfZero, BadWork}
 use Rattle.field.specs.declared.outcome.Outcome.TheVariants.{BadPlaces, NoInformationSet, BadSeries, BadColumns, LowOrder}
-use Rattle.field.specs.contracts.outcome.Outcome.{the_type}
 
 -- a check that comes out Done did not apply
 pub passed : (t : Bool) (o r : Outcome) → (r ≡ Done → ⊥) → refuse t r o ≡ Done → (t ≡ false) × (o ≡ Done)
@@ -63,12 +59,9 @@ done_or_refused o = go (eqb (number o) 0) refl
     go true e = inl (sym (outcome_of_lem o) ∙ rw e)
     go false e = inr e
 
--- the variants other than Done, by their tags: what the arm of the others is told
-abbrev pub refusals : List ℕ
-refusals = 1 ∷ 2 ∷ 3 ∷ 4 ∷ 5 ∷ 6 ∷ 7 ∷ 8 ∷ 9 ∷ 10 ∷ 11 ∷ 12 ∷ 13 ∷ 14 ∷ 15 ∷ 16 ∷ 17 ∷ 18 ∷ []
-
-pub not_done : (o : Outcome) → OneOf refusals (tag_of the_type o) → eqb (number o) 0 ≡ false
-not_done Done k = absurd (miss refusals 0 tt k)
+-- an outcome other than Done, as an arm of the code is told of it
+pub not_done : (o : Outcome) → (o ≡ Done → ⊥) → eqb (number o) 0 ≡ false
+not_done Done k = absurd (k refl)
 not_done BadCurve k = refl
 not_done BadOrder k = refl
 not_done BadLength k = refl
@@ -127,7 +120,7 @@ module _ (row : Outcome → Outcome) (f : Follows row) (o : Outcome) (e : o ≡ 
   pub row_not_done : eqb (number o) 0 ≡ false → o ≡ row rest
   row_not_done n = ⊎_elim (λ d. absurd (done_or_not o d.0 n)) (λ d. sym d.1) (f o rest (sym e))
 
-  pub row_refused : OneOf refusals (tag_of the_type o) → o ≡ row rest
+  pub row_refused : (o ≡ Done → ⊥) → o ≡ row rest
   row_refused r = row_not_done (not_done o r)
 
   pub row_passed : o ≡ Done → row rest ≡ rest

@@ -3,7 +3,7 @@ ghost use Rattle.std.specs.Prelude.{◌≡◌};
 ghost use Rattle.field.specs.Curve.{is_curve, is_short, IsCurve, curve_of, named_of};
 
 // The curve y^2 + y = x^3.
-#[derive(Drop)]
+#[derive(Clone, Copy)]
 pub struct Small;
 
 impl Small {
@@ -19,7 +19,7 @@ impl Small {
 }
 
 // The curve y^4 + y = x^5.
-#[derive(Drop)]
+#[derive(Clone, Copy)]
 pub struct Large;
 
 impl Large {
@@ -35,7 +35,7 @@ impl Large {
 }
 
 // The curve y^8 + y = x^9, that of long blocks.
-#[derive(Drop)]
+#[derive(Clone, Copy)]
 pub struct Long;
 
 impl Long {
@@ -51,7 +51,7 @@ impl Long {
 }
 
 // The numbers of the curve q: its symbols are Q in number, its points n.
-#[derive(Drop)]
+#[derive(Clone, Copy)]
 pub struct Curve {
     pub q: u8,
     pub symbols: u8,
@@ -61,7 +61,7 @@ pub struct Curve {
     pub weight_y: usize,
 }
 
-#[derive(Drop)]
+#[derive(Clone, Copy)]
 pub enum Named {
     Is(Curve),
     Unknown,

@@ -7,7 +7,7 @@ use crate::curve::{Curve, Named};
 use crate::outcome::Outcome;
 use crate::symbol;
 
-#[derive(Drop)]
+#[derive(Clone, Copy)]
 pub struct Answer {
     pub symbol: u8,
     pub outcome: Outcome,

@@ -4,7 +4,7 @@ ghost use Rattle.field.specs.Outcomes.{number, second, packed};
 
 // Done, and a case for each refusal of "Why a call is turned down", in its order. No case has the number 8: "Refusal 8 no longer
 // occurs" (T-01).
-#[derive(Drop)]
+#[derive(Clone, Copy)]
 pub enum Outcome {
     Done,
     BadCurve,

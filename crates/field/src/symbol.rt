@@ -90,7 +90,7 @@ pub fn half(q: u8) -> usize
 }
 
 // A symbol's number by its halves: low + half * high.
-#[derive(Drop)]
+#[derive(Clone, Copy)]
 pub struct Halves {
     pub low: usize,
     pub high: usize,

@@ -1,4 +1,6 @@
 // The library as C calls it: a slice is a pointer and a length, and both numbers of the outcome come in one.
+#![tactic(auto)]
+
 ghost use Rattle.hermitian.specs.Packed.{PackedMending, PackedVerdict};
 ghost use Rattle.code.specs.Packed.{Packed};
 ghost use Rattle.code.specs.Converted.{converted};

@@ -1,5 +1,7 @@
 // Recovery of long blocks as C calls it. It is an archive of its own, so that the loops of short blocks are compiled for their vectors of 64
 // symbols alone.
+#![tactic(auto)]
+
 ghost use Rattle.std.specs.Prelude.{length};
 ghost use Rattle.code.specs.Packed.{Packed};
 ghost use Rattle.code.specs.RecoveredLong.{recovered_long, KeptUnlessWorked};

@@ -17,7 +17,7 @@ use linear::system;
 
 // How far a call has come: the next place, the rows of the system, whether the symbols contradict each other, and how many
 // this call has brought in.
-#[derive(Drop)]
+#[derive(Clone, Copy)]
 pub struct Progress {
     pub next: usize,
     pub rank: usize,

@@ -1,4 +1,6 @@
 // Recovery in slices: a job that is opened from a broken word and carried on by calls, each with a budget of symbols.
+#![tactic(auto)]
+
 pub mod bringing;
 pub mod testing;
 pub mod turns;
@@ -21,7 +23,7 @@ use poly::rows;
 
 // What a call says: it met 5; it is still working, and no message fits the symbols brought in so far, or Q^r do; or it is
 // finished, with what recovery says.
-#[derive(Drop)]
+#[derive(Clone, Copy)]
 pub enum Reply {
     Refused,
     NoneFits,
@@ -32,7 +34,7 @@ pub enum Reply {
 // q, the strap series, m, a broken word and how far it has been brought in: the places below `next`. While symbols are collected, `work` holds
 // their equations; once these are complete, `candidate` is the only message that they leave, and `whole` its word; a clash ends
 // both. Places from n on are never read.
-#[derive(Drop)]
+#[derive(Clone, Copy)]
 pub struct Job {
     pub work: [u8; 4096],
     pub places: [u8; 64],
@@ -47,14 +49,14 @@ pub struct Job {
 }
 
 // What an opening hands back.
-#[derive(Drop)]
+#[derive(Clone, Copy)]
 pub struct Opening {
     pub job: Job,
     pub outcome: Outcome,
 }
 
 // What a call hands back.
-#[derive(Drop)]
+#[derive(Clone, Copy)]
 pub struct Turn {
     pub job: Job,
     pub brought: u8,

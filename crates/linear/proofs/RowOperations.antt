@@ -1,21 +1,17 @@
 -- What the row operations leave: the length, each element, and that symbols stay symbols.
 -- Assumes nothing.
-use mathlib.Core.Path.{◌≡◌, sym, ap, ◌∙◌}
+use mathlib.Core.Path.{◌≡◌, ◌∙◌}
 use mathlib.Core.List.{List}
-use mathlib.Core.Logic.{◌⊎◌, inl, inr, ⊎_elim}
 use Prim.Native.Nat.{ℕ, ◌+◌, ◌-◌, ◌*◌, ◌≤◌, ◌<◌}
-use native.Mathlib.Decide.{dec_lt, ℕ_discrete}
+use native.Mathlib.Decide.{dec_lt}
 use native.Mathlib.Omega.{arith}
-use lib.ListN.{length, length-set}
-use lib.Seq.{get_or-set_same, get_or-set_other}
+use lib.ListN.{length}
 use Rattle.field.specs.Plus.{plus}
 use Rattle.field.specs.Field.{Field}
-use Rattle.field.proofs.Plus.{plus_zero}
-use Rattle.field.proofs.FieldLaws.{times_zero}
 use Rattle.poly.specs.Inner.Ranges.{Below, part}
 use Rattle.poly.specs.Inner.Linear.{entry}
 use Rattle.poly.specs.Inner.Rows.{added, scaled, divided, stored, placed}
-use Rattle.poly.proofs.Writes.{length_writes, writes_in, writes_out, below_writes}
+use Rattle.poly.proofs.Writes.{length_writes, writes_in, below_writes}
 use Rattle.poly.proofs.Parts.{row_before, length_part, below_part, length_put, put_low, put_in, put_high, below_put}
 
 -- ---- multiples

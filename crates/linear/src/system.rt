@@ -9,7 +9,7 @@ ghost use Rattle.linear.specs.Inner.Systems.{flat, WellFormed, Equation, Reduced
 use poly::rows;
 
 // What bringing in an equation did: a row more; nothing, for it held already; nothing, for it never holds.
-#[derive(Drop)]
+#[derive(Clone, Copy)]
 pub enum Effect {
     Pivot,
     Redundant,

@@ -1,4 +1,6 @@
 // The text that the programs `blocks` (here) and `page` (module `page`) print.
+#![tactic(auto)]
+
 pub mod page;
 pub mod text;
 

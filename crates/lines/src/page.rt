@@ -2,14 +2,14 @@
 ghost use Rattle.std.specs.Prelude.{◌≡◌, ◌+◌, ◌*◌, ◌/◌, ◌≤◌, ◌<◌, length};
 ghost use Rattle.points.specs.Inner.Columns.{Ys};
 ghost use Rattle.lines.specs.Text.{joined, Written};
-ghost use Rattle.lines.specs.Page.{character as Page·character, point_text, column_line, several_text, result_text, last_line, page_of, pages_of};
+ghost use Rattle.lines.specs.Page.{character as page_character, point_text, column_line, several_text, result_text, last_line, page_of, pages_of};
 
 use crate::text;
 use field::outcome;
 
 // The character of a stored value.
 fn character(value: u8) -> u8
-    ensures { result ≡ Page·character value }
+    ensures { result ≡ page_character value }
 {
     if value < 16 {
         return text::hex_digit(value);

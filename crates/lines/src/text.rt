@@ -1,6 +1,6 @@
 // Text in ASCII, written into a slice from a place on. Each function answers the place after its text.
 ghost use Rattle.std.specs.Prelude.{◌≡◌, ◌++◌, map, ◌+◌, ◌≤◌, length};
-ghost use Rattle.lines.specs.Text.{hex_digit, Written, decimal as Text·decimal};
+ghost use Rattle.lines.specs.Text.{hex_digit, Written, decimal as decimal_text};
 
 pub fn bytes(text: &[u8], at: usize, out: &mut [u8]) -> usize
     requires { at + length text.now ≤ length out.old }
@@ -40,8 +40,8 @@ pub fn digits(values: &[u8], at: usize, out: &mut [u8]) -> usize
 }
 
 pub fn decimal(n: usize, at: usize, out: &mut [u8]) -> usize
-    requires { at + length (Text·decimal n) ≤ length out.old }
-    ensures { Written out.old at (Text·decimal n) result out.new }
+    requires { at + length (decimal_text n) ≤ length out.old }
+    ensures { Written out.old at (decimal_text n) result out.new }
 {
     if n < 10 {
         out[at] = 48 + n as u8;
@@ -55,7 +55,7 @@ pub fn decimal(n: usize, at: usize, out: &mut [u8]) -> usize
 // A number and the text that follows it. No number takes more than 20 bytes.
 pub fn decimal_then(n: usize, text: &[u8], at: usize, out: &mut [u8]) -> usize
     requires { at + (20 + length text.now) ≤ length out.old }
-    ensures { Written out.old at (Text·decimal n ++ text.now) result out.new
+    ensures { Written out.old at (decimal_text n ++ text.now) result out.new
         × (result ≤ at + (20 + length text.now)) }
 {
     let end = decimal(n, at, out);

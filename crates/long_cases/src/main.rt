@@ -1,5 +1,7 @@
 // Runs the entries that take long blocks on the cases of standard input, records of 1136 bytes, and prints a line for each.
 // The module `long_case_record` of host/reference has the layout of a record and of its line.
+#![tactic(auto)]
+
 ghost use Rattle.std.specs.Prelude.{◌≤◌};
 
 use case_lines::{number, print_answer, print_values};

@@ -1,4 +1,6 @@
 // The mender of whole words with wrong symbols: it finds the codeword that differs from the word in at most t places.
+#![tactic(auto)]
+
 ghost use Rattle.std.specs.Prelude.{true, ◌≡◌, ◌+◌, ◌*◌, ◌≤◌, length};
 ghost use Rattle.field.specs.Curve.{IsShort, curve_of};
 ghost use Rattle.field.specs.declared.outcome.Outcome.TheVariants.{Done};
@@ -15,7 +17,7 @@ pub mod locator;
 pub mod product;
 
 // The outcome, and how many symbols were changed.
-#[derive(Drop)]
+#[derive(Clone, Copy)]
 pub struct Reply {
     pub outcome: Outcome,
     pub count: u8,

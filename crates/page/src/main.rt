@@ -1,4 +1,6 @@
 // Reads records of 64 bytes from standard input and prints a page of 17 lines for each.
+#![tactic(auto)]
+
 use libc::{STDIN_FILENO, STDOUT_FILENO};
 
 // A number of turns that no input reaches: a proved loop has to end.

@@ -1,7 +1,7 @@
 -- Lists of numbers that strictly ascend, below a bound: what the test says, and how a loop finds it.
 -- Assumes nothing.
-use mathlib.Core.Bool.{Bool, true, false}
-use mathlib.Core.List.{List, Memᴰ as Mem}
+use mathlib.Core.Bool.{Bool}
+use mathlib.Core.List.{List}
 use mathlib.Core.Path.{◌≡◌, refl, sym, ap}
 use Prim.Native.Nat.{ℕ, zero, suc, ◌+◌, ◌-◌, ◌≤◌, ◌<◌}
 use native.Mathlib.Decide.{ℕ_discrete, dec_lt}
@@ -11,7 +11,7 @@ use lib.ListN.{length, get_or}
 use Rattle.field.proofs.Search.{of_every, to_every, both}
 use Rattle.poly.specs.Ascending.{is_ascending, are_below, is_ascending_below}
 use Rattle.poly.specs.Lists.{Nodup}
-use Rattle.poly.proofs.Bools.{T_true, parts, same_test}
+use Rattle.poly.proofs.Bools.{parts}
 use Rattle.poly.proofs.Lists.{get_or_nodup}
 
 pub record AscendingBelow (n : ℕ) (list : List ℕ) : Type 0 where

@@ -12,7 +12,7 @@ use lib.ListN.{length, get_or}
 use lib.Seq.{ext_get_or}
 use Rattle.field.specs.Field.{Field}
 use Rattle.field.proofs.FieldLaws.{zero_lt}
-use Rattle.poly.specs.Lists.{Nodup, below}
+use Rattle.poly.specs.Lists.{Nodup}
 use Rattle.poly.specs.Messages.{Vector}
 use Rattle.poly.specs.Inner.Ranges.{Below}
 use Rattle.poly.specs.Inner.Polynomials.{value}

@@ -8,7 +8,7 @@ use native.Mathlib.Nat.{le_antisymm, eq-or-lt_of_le, not-suc-le-zero, le_of_suc-
 use native.Mathlib.Numerals.{add-one}
 use native.Mathlib.Decide.{dec_lt}
 use native.Mathlib.Omega.{arith}
-use lib.ListN.{length, get_or, set, length-set, length-map, replicate, length-replicate, get_or-replicate}
+use lib.ListN.{length, get_or, set, length-set, length-map}
 use lib.Seq.{ext_get_or, get_or-set_same, get_or-set_other}
 use Rattle.poly.specs.Inner.Ranges.{Below, writes}
 use Rattle.poly.proofs.Lists.{get_d_map}

@@ -1,5 +1,7 @@
 // An example of recovery in slices: what a display draws while jobs are carried on. Standard input is read as by `blocks`, in
 // records of 64 bytes at q = 4 and m = 37. A job is opened for each and called until it is finished, and each call gives a line.
+#![tactic(auto)]
+
 ghost use Rattle.std.specs.Prelude.{◌+◌, ◌≤◌, length};
 
 use field::Outcome;

@@ -1,6 +1,8 @@
 // Recovery: a broken word to the message that alone fits it, by its missing symbols. The words that agree with it are the word with 0 at
 // each gap, plus a combination of the words that are 1 at one gap and 0 elsewhere, and so are their grids; a message's word is one whose
 // grid has no coefficient of a weight above m.
+#![tactic(auto)]
+
 ghost use Rattle.std.specs.Prelude.{◌≡◌, ℕ, ◌*◌, ◌≤◌, ◌<◌, length};
 ghost use Rattle.field.specs.Curve.{IsCurve, IsShort};
 ghost use Rattle.field.specs.Inner.Halves.{half_of};

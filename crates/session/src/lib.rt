@@ -1,4 +1,6 @@
 // A receiving session: opening, arrival and asking.
+#![tactic(auto)]
+
 pub mod replay;
 
 ghost use Rattle.std.specs.Prelude.{map, ◌≡◌};
@@ -15,7 +17,7 @@ use job::Opening;
 
 // q, the strap series, m and for each place the symbol of the highest round received there, and that round: 255 and 0 where none was, and 254 where
 // two symbols of that round differed, a conflict. Places from n on are never read, nor their rounds.
-#[derive(Drop)]
+#[derive(Clone, Copy)]
 pub struct Session {
     pub q: u8,
     pub series: u8,
@@ -25,7 +27,7 @@ pub struct Session {
 }
 
 // What an opening or an arrival hands back.
-#[derive(Drop)]
+#[derive(Clone, Copy)]
 pub struct Reply {
     pub session: Session,
     pub outcome: Outcome,
@@ -58,7 +60,7 @@ pub fn open(q: u8, series: u8, m: u16) -> Reply
 }
 
 // What is stored for a place.
-#[derive(Drop)]
+#[derive(Clone, Copy)]
 struct Stored {
     value: u8,
     round: u8,
@@ -110,7 +112,7 @@ fn clear_conflicts(places: &mut [u8])
 }
 
 // What the checks and recovery read of a session: n, Q, and the places, of which the first n are the received word.
-#[derive(Drop)]
+#[derive(Clone, Copy)]
 struct ReceivedWord {
     points: usize,
     symbols: u8,

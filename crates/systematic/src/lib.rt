@@ -1,4 +1,6 @@
 // Encoding with symbols at chosen places: a payload that is readable without a decoder.
+#![tactic(auto)]
+
 ghost use Rattle.std.specs.Prelude.{◌≡◌, length};
 ghost use Rattle.field.specs.declared.outcome.Outcome.TheVariants.{Done};
 ghost use Rattle.code.specs.Answers.{answered};

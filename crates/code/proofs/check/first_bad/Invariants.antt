@@ -1,0 +1,18 @@
+-- `code::check::first_bad` meets its contract: where the highest value is a symbol none is bad; else what is left of the list is searched
+use mathlib.Core.Path.{◌≡◌, sym, ◌∙◌}
+use Prim.Native.Nat.{◌+◌, ◌-◌, ◌≤◌}
+use native.Mathlib.Nat.{zero-add}
+use native.Mathlib.Omega.{arith}
+use lib.ListN.{length, drop}
+use borrow.Author.Rules.{rules}
+use Rattle.field.specs.Values.{bad_value, first_bad}
+use Rattle.field.proofs.Values.{bad_found, bad_turn, bad_none}
+use Rattle.code.proofs.Highest.{symbols_good}
+use Rattle.code.proofs.check.first_bad.Given as goal
+
+abbrev pub invariant-loop-i : goal.invariant-loop-i
+invariant-loop-i l =
+    (l.i ≤ length l.values) × (first_bad (bad_value l.gaps l.size) l.values ≡ l.i + first_bad (bad_value l.gaps l.size) (drop l.i l.values))
+
+abbrev pub decreases-loop-i : goal.decreases-loop-i
+decreases-loop-i l = length l.values - l.i

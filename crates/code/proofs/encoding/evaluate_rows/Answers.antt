@@ -1,0 +1,77 @@
+-- `code::encoding::evaluate_rows` meets its contract: each turn writes the row of one power of y.
+-- Assumes nothing.
+use mathlib.Core.Logic.{⊎_elim}
+use mathlib.Core.Path.{◌≡◌, refl, sym, ap, ◌∙◌, subst}
+use Prim.Native.Nat.{ℕ, ◌+◌, ◌-◌, ◌*◌, ◌≤◌}
+use native.Mathlib.Nat.{mul-le-mul_left}
+use native.Mathlib.Omega.{arith}
+use borrow.Author.Rules.{rules}
+use borrow.Rule.Slice.PartMut.{same_len_mid, mid_len}
+use lib.ListN.{length, get_or}
+use Rattle.field.proofs.Fields.{field_of}
+use Rattle.poly.specs.Inner.Polynomials.{value}
+use Rattle.poly.specs.Inner.Linear.{entry}
+use Rattle.poly.specs.Inner.Lanes.{lanes}
+use Rattle.poly.specs.Inner.Ranges.{Below}
+use Rattle.poly.proofs.LaneLaws.{length_lanes}
+use Rattle.poly.proofs.Blocks.{block_start, block_fits}
+use Rattle.code.specs.Inner.Encodable.{Rowed}
+use Rattle.code.proofs.Stages.{places_at, places_below, rows_none, rows_turn, rows_all}
+use Rattle.code.proofs.encoding.evaluate_rows.Goals as goal
+use Rattle.code.proofs.encoding.evaluate_rows.Goals.{In-loop-j, Joined-q-eq8, else-q-eq8, then-q-eq8}
+
+-- the row is within rows
+fits : (c : goal.In-loop-j) → c.loop-j.at + 16 ≤ length c.loop-j.rows
+fits c =
+    let l = c.loop-j in
+    omega (arith, l.invariant.0, l.invariant.1, c.requires.le_n.2, block_fits 16 l.j c.args.q c.loop-j-test.true)
+
+-- the values of the row's polynomial
+row_is : (c : goal.Joined-q-eq8) → let x = c.args in
+    c.if-q-eq8.row ≡ lanes (λ t. value (field_of x.q) c.terms-k.result (λ i. get_or x.grid.now (x.q * i + c.loop-j.j) 0)
+    (entry c.copy.new.dst t))
+row_is c =
+    let x = c.args in
+    let k = c.terms-k.result in
+    let j = c.loop-j.j in
+    let places = c.copy.new.dst in
+    elim c.if-q-eq8.branch [ then-q-eq8 v ↦ subst (λ (f : ℕ). c.if-q-eq8.row ≡ lanes (λ t. value (field_of f) k (λ i. get_or x.grid.now (x.q * i + j) 0) (entry places t)))
+    (sym v.if-q-eq8.true) (v.row-is ∙ v.evaluate_long-row.ensures) | else-q-eq8 v ↦ v.row-is ∙ v.evaluate_short-row.ensures ]
+
+pub evaluate_long-row-requires : goal.evaluate_long-row-requires
+evaluate_long-row-requires c =
+    let h = c.requires.staged.0 in
+    let e = c.terms-k.ensures in
+    let copy = c.copy in
+    let small = places_below c.args.q c.args.columns.now h.few _ copy.ensures h.columns_below in record {
+      below = subst (λ (f : ℕ). Below (field_of f).size c.args.grid.now × Below (field_of f).size copy.new.dst) c.if-q-eq8.true
+          (h.symbols, small);
+      le_count = (e.some, c.loop-j-test.true, omega (arith, c.requires.le_n.1, mul-le-mul_left c.args.q e.within));
+    }
+
+pub evaluate_short-row-requires : goal.evaluate_short-row-requires
+evaluate_short-row-requires c =
+    let h = c.requires.staged.0 in
+    let e = c.terms-k.ensures in record {
+      below = (
+        h.symbols,
+        places_below c.args.q c.args.columns.now h.few _ c.copy.ensures h.columns_below,
+        c.if-q-eq8.false,
+      );
+      le_count = (e.some, c.loop-j-test.true, omega (arith, c.requires.le_n.1, mul-le-mul_left c.args.q e.within));
+    }
+
+pub loop-j-preserved : goal.loop-j-preserved
+loop-j-preserved c =
+    let l = c.loop-j in
+    let places = c.copy in
+    let terms = c.terms-k in
+    let e = c.copy-in-loop-j in
+    let last = e.new.dst in (
+      block_start 16 l.j l.at (l.at + 16) l.invariant.0 refl,
+      same_len_mid l.at (l.at + 16 - l.at) l.rows last e.auto.dst ∙ l.invariant.1,
+      rows_turn c.args.q c.args.columns.now c.args.n c.args.grid.now l.rows places.new.dst _ last l.j
+          terms.result l.at l.invariant.2 l.invariant.0 (fits (goal.at.loop-j-preserved c).In-loop-j)
+          (places_at c.args.q c.args.columns.now c.requires.staged.0.few places.new.dst places.ensures)
+          terms.ensures (row_is (goal.at.loop-j-preserved c).Joined-q-eq8) e.ensures,
+    )

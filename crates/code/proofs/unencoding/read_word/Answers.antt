@@ -1,0 +1,31 @@
+-- `code::unencoding::read_word` meets its contract: by the grid of the word. Assumes nothing.
+use mathlib.Core.Path.{sym, ◌∙◌}
+use Prim.Native.Nat.{◌≤◌}
+use native.Mathlib.Omega.{arith}
+use borrow.Author.Rules.{rules}
+use lib.ListN.{length, take}
+use lib.Seq.{length-take-le}
+use Rattle.points.specs.Series.{columns_of}
+use Rattle.code.proofs.Stages.{columns_short}
+use Rattle.code.proofs.WordGrids.{front_grid, read_answer}
+use Rattle.code.proofs.unencoding.read_word.Goals as goal
+use Rattle.code.proofs.unencoding.read_word.Goals.{After-interpolate_short-grid, Start}
+
+-- the word is no longer than the array
+few : (c : goal.Start) → length c.args.word.now ≤ 64
+few c =
+    let h = c.requires.0.whole in
+    omega (arith, h.long, columns_short c.args.q (columns_of c.args.q c.args.series) h.over c.requires.1 h.few)
+
+-- what is lent of the grid
+room : (c : goal.After-interpolate_short-grid) → length c.args.word.now ≤ length c.interpolate_short-grid.result
+room c = omega (arith, few (goal.at.After-interpolate_short-grid c).Start, c.interpolate_short-grid.ensures.1)
+
+pub returns : goal.returns
+returns c =
+    let a = c.args in
+    let n = length a.word.now in
+    let r = c.interpolate_short-grid in
+    read_answer a.q (columns_of a.q a.series) a.word.now c.requires.0.whole a.m c.requires.0.order (take n r.result)
+    (front_grid a.q (columns_of a.q a.series) a.word.now c.requires.0.whole r.result r.ensures.0 (room (goal.at.returns c).After-interpolate_short-grid)) a.message.now
+    ∙ c.read_grid.ensures

@@ -1,0 +1,19 @@
+-- `dual::term_sums::take_symbols` meets its contract. The invariant of its loop: the first t lanes are written.
+use mathlib.Core.Path.{◌≡◌, refl, ap, ◌∙◌}
+use Prim.Native.Nat.{ℕ, ◌+◌, ◌-◌, ◌*◌, ◌≤◌, ◌<◌}
+use native.Mathlib.Nat.{mul-le-mul_left, mul-le-mul_right}
+use native.Mathlib.Omega.{arith}
+use lib.ListN.{length, get_or, replicate, length-set, get_or-eq_default}
+use Rattle.field.proofs.Curves.{sizes}
+use Rattle.poly.specs.Inner.Ranges.{writes}
+use Rattle.poly.proofs.Blocks.{block_fits}
+use Rattle.poly.proofs.Writes.{writes_turn}
+use Rattle.dual.proofs.StagedSums.{stores_lanes}
+use Rattle.dual.proofs.term_sums.take_symbols.Given as goal
+
+abbrev pub invariant-loop-t : goal.invariant-loop-t
+invariant-loop-t l =
+    (l.t ≤ l.c) × (length l.r ≡ 16) × (l.r ≡ writes (replicate 16 0) l.t (λ tt. get_or l.word (l.q * tt + l.s) 0))
+
+abbrev pub decreases-loop-t : goal.decreases-loop-t
+decreases-loop-t l = l.c - l.t

@@ -1,0 +1,18 @@
+-- `dual::term_sums::take_ys` meets its contract. The invariant of its loop: the first t lanes are written.
+use mathlib.Core.Path.{◌≡◌, refl, ap, ◌∙◌}
+use Prim.Native.Nat.{ℕ, ◌+◌, ◌-◌, ◌*◌, ◌≤◌, ◌<◌}
+use native.Mathlib.Omega.{arith}
+use lib.ListN.{length, get_or, replicate, length-set}
+use Rattle.field.proofs.Curves.{sizes}
+use Rattle.poly.specs.Inner.Ranges.{writes}
+use Rattle.poly.proofs.Writes.{writes_turn}
+use Rattle.points.proofs.YsTables.{table_fits}
+use Rattle.dual.proofs.StagedSums.{taken_ys}
+use Rattle.dual.proofs.term_sums.take_ys.Given as goal
+
+abbrev pub invariant-loop-t : goal.invariant-loop-t
+invariant-loop-t l =
+    (l.t ≤ length l.columns) × (length l.r ≡ 16) × (l.r ≡ writes (replicate 16 0) l.t (λ tt. get_or l.all (l.q * get_or l.columns tt 0 + l.s) 0))
+
+abbrev pub decreases-loop-t : goal.decreases-loop-t
+decreases-loop-t l = length l.columns - l.t

@@ -1,0 +1,34 @@
+-- `job::testing::usable` meets its contract: each of its tests is one of those that are asked.
+-- Assumes nothing.
+use mathlib.Core.Path.{◌≡◌, sym, ap, ◌∙◌}
+use Prim.Native.Nat.{◌*◌, ◌≤◌}
+use native.Mathlib.Omega.{arith}
+use borrow.Author.Rules.{rules}
+use borrow.Author.Tests.{not-true, not-false}
+use lib.ListN.{length}
+use lib.Seq.{length-take-le}
+use Rattle.field.specs.Curve.{IsShort}
+use Rattle.field.specs.declared.curve.Curve.{Curve}
+use Rattle.field.proofs.Curves.{short_curve, short_sizes, short_of_true}
+use Rattle.field.proofs.Outcomes.{not_done}
+use Rattle.job.proofs.Openings.{open_short}
+use Rattle.job.proofs.Usability.{tested_curve, tested_refused, tested_beyond, tested_all}
+use Rattle.job.proofs.testing.usable.Goals as goal
+use Rattle.job.proofs.testing.usable.Goals.{After-at-curve}
+
+-- where the curve's numbers are known: it is one of short blocks
+block : (c : goal.After-at-curve) → IsShort c.args.q
+block c = short_of_true _ (sym c.is_short.ensures ∙ c.if-not-is_short.false)
+
+pub returns-then-not-is_short : goal.returns-then-not-is_short
+returns-then-not-is_short c =
+    let x = c.args in
+    tested_curve x.q x.series x.m x.places.now x.next x.work.now x.candidate.now x.complete x.clash
+    (sym c.is_short.ensures ∙ c.if-not-is_short.true)
+
+pub is_formed-requires : goal.is_formed-requires
+is_formed-requires c =
+    let o = c.opening in
+    let x = c.args in
+    let short = open_short x.q x.series x.m _ (sym o.ensures ∙ c.in-Done.is) in
+    (block (goal.at.is_formed-requires c).After-at-curve, omega (arith, short, c.size.ensures), c.requires.1)

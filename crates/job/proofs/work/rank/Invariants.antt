@@ -1,0 +1,14 @@
+-- `job::work::rank` meets its contract: n of the rows before p are there.
+use mathlib.Core.Path.{◌≡◌, sym, ap, ◌∙◌}
+use mathlib.Core.Logic.{⊎_elim}
+use Prim.Native.Nat.{ℕ, ◌-◌, ◌≤◌}
+use native.Mathlib.Omega.{arith}
+use Rattle.linear.specs.Inner.Systems.{flat, rank}
+use Rattle.job.proofs.Formed.{rank_none, rank_there, rank_absent}
+use Rattle.job.proofs.work.rank.Given as goal
+
+abbrev pub invariant-loop-p : goal.invariant-loop-p
+invariant-loop-p l = (l.p ≤ l.k) × (l.n ≤ l.p) × (l.n ≡ rank l.p (flat 64 l.k l.work))
+
+abbrev pub decreases-loop-p : goal.decreases-loop-p
+decreases-loop-p l = l.k - l.p

@@ -1,0 +1,14 @@
+-- `job::work::row_formed` meets its contract: the row's own entry is 1, and those after it and before j are 0.
+use mathlib.Core.Path.{◌≡◌, sym}
+use Prim.Native.Nat.{ℕ, ◌+◌, ◌-◌, ◌≤◌, ◌<◌}
+use native.Mathlib.Omega.{arith}
+use native.Mathlib.Decide.{ℕ_discrete}
+use Rattle.poly.specs.Inner.Linear.{entry}
+use Rattle.job.proofs.Formed.{row_large, row_absent, row_not, row_all}
+use Rattle.job.proofs.work.row_formed.Given as goal
+
+abbrev pub invariant-loop-j : goal.invariant-loop-j
+invariant-loop-j l = (l.p < l.j) × (l.j ≤ l.k) × (l.own ≡ 1) × ((i : ℕ) → l.p < i → i < l.j → entry l.work (l.base + i) ≡ 0)
+
+abbrev pub decreases-loop-j : goal.decreases-loop-j
+decreases-loop-j l = l.k - l.j

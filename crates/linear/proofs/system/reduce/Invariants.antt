@@ -1,0 +1,10 @@
+-- `linear::system::reduce` meets its contract. The invariant of its loop is `Reducing`, and a turn is a lemma of `Reduction`.
+use Rattle.field.proofs.Fields.{field_of}
+use Rattle.linear.specs.Inner.Systems.{flat, Reducing}
+use Rattle.linear.proofs.system.reduce.Given as goal
+
+abbrev pub invariant-loop-p : goal.invariant-loop-p
+invariant-loop-p l = Reducing (field_of l.q) l.k (flat l.stride l.k l.work) l.initial.row l.row l.p
+
+abbrev pub decreases-loop-p : goal.decreases-loop-p
+decreases-loop-p l = l.p

@@ -1,0 +1,15 @@
+-- `page::last_line` meets its contract: the spaces are as many as the line lacks.
+-- Assumes nothing.
+use mathlib.Core.Path.{sym}
+use native.Mathlib.Omega.{arith}
+use lib.Seq.{length-take-le}
+use borrow.Author.Rules.{rules}
+use Rattle.lines.proofs.Pages.{length_spaces, last_line_whole}
+use Rattle.lines.proofs.page.last_line.Goals as goal
+
+pub returns : goal.returns
+returns c =
+    let a = c.args in
+    let v = c.result_text-a in
+    let s = c.bytes-b in
+    last_line_whole a.refusal a.second v.ensures.0 v.ensures.1 s.ensures c.bytes.ensures

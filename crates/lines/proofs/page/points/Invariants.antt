@@ -1,0 +1,18 @@
+-- `page::points` meets its contract. The invariant of its loop: the first s points are written.
+use mathlib.Core.Path.{◌≡◌, refl, sym, ◌∙◌}
+use Prim.Native.Nat.{◌+◌, ◌-◌, ◌*◌, ◌≤◌}
+use native.Mathlib.Omega.{arith}
+use borrow.Author.Rules.{rules}
+use lib.ListN.{length}
+use Rattle.lines.specs.Text.{joined, Written}
+use Rattle.lines.specs.Page.{point_text}
+use Rattle.lines.proofs.Texts.{joined_none, joined_more}
+use Rattle.lines.proofs.Pages.{point_at}
+use Rattle.lines.proofs.page.points.Given as goal
+
+abbrev pub invariant-loop-s : goal.invariant-loop-s
+invariant-loop-s l =
+    (l.s ≤ 4) × (l.end ≡ l.at + 4 * l.s) × (length l.out ≡ length l.initial.out) × Written l.initial.out l.at (joined (point_text l.block l.x) l.s) l.end l.out
+
+abbrev pub decreases-loop-s : goal.decreases-loop-s
+decreases-loop-s l = 4 - l.s

@@ -1,0 +1,16 @@
+-- `mend::difference::mark` meets its contract. The invariant of its loop: the marks of the places below p are written.
+use mathlib.Core.Logic.{⊎_elim}
+use mathlib.Core.Path.{◌≡◌, refl, ◌∙◌}
+use Prim.Native.Nat.{◌-◌, ◌≤◌}
+use native.Mathlib.Omega.{arith}
+use lib.ListN.{length, length-set}
+use Rattle.poly.specs.Inner.Ranges.{writes}
+use Rattle.poly.proofs.Writes.{writes_turn}
+use Rattle.mend.proofs.Marks.{mark_at, mark_same, mark_differs, marks_end}
+use Rattle.mend.proofs.difference.mark.Given as goal
+
+abbrev pub invariant-loop-p : goal.invariant-loop-p
+invariant-loop-p l = (l.p ≤ length l.a) × (length l.marks ≡ length l.initial.marks) × (l.marks ≡ writes l.initial.marks l.p (mark_at l.a l.b))
+
+abbrev pub decreases-loop-p : goal.decreases-loop-p
+decreases-loop-p l = length l.a - l.p

@@ -1,0 +1,13 @@
+-- `poly::polynomial::evaluate_long` meets its contract: Horner's rule in all lanes at once, from the last coefficient on.
+use mathlib.Core.Path.{◌≡◌}
+use Prim.Native.Nat.{◌<◌}
+use Rattle.field.proofs.Fields.{field_of}
+use Rattle.poly.proofs.Horner.{coefficient, ahead}
+use Rattle.poly.proofs.polynomial.evaluate_long.Given as goal
+
+abbrev pub invariant-loop-i : goal.invariant-loop-i
+invariant-loop-i l =
+    (l.i < l.count) × (l.values ≡ ahead (field_of 8) l.count (coefficient l.list l.start l.stride) l.i l.places)
+
+abbrev pub decreases-loop-i : goal.decreases-loop-i
+decreases-loop-i l = l.i

@@ -1,0 +1,12 @@
+-- `recovery::indicator::long_x_powers` meets its contract: the rule of the table, by two computed tests.
+-- Assumes nothing.
+use mathlib.Core.Path.{refl}
+use native.Mathlib.Omega.{arith}
+use Rattle.field.specs.Power.{power}
+use Rattle.field.specs.Product.{times}
+use Rattle.recovery.proofs.IndicatorBlocks.{x_powers_table}
+use Rattle.recovery.proofs.indicator.long_x_powers.Goals as goal
+
+pub returns : goal.returns
+unfolding times power
+returns c = x_powers_table 8 1024 _ refl (omega arith) tt tt

@@ -1,0 +1,14 @@
+-- `recovery::indicator::y_factors_4` meets its contract: the rule of the table, by two computed tests.
+-- Assumes nothing.
+use mathlib.Core.Path.{refl}
+use native.Mathlib.Omega.{arith}
+use Rattle.field.specs.Plus.{plus}
+use Rattle.field.specs.Power.{power}
+use Rattle.field.specs.Product.{times}
+use Rattle.poly.specs.Inner.Indicators.{indicator}
+use Rattle.recovery.proofs.IndicatorBlocks.{y_factors_table}
+use Rattle.recovery.proofs.indicator.y_factors_4.Goals as goal
+
+pub returns : goal.returns
+unfolding times power plus indicator
+returns c = y_factors_table 4 256 _ refl (omega arith) tt tt

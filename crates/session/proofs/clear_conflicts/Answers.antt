@@ -1,0 +1,27 @@
+-- `session::clear_conflicts` meets its contract. The invariant of its loop: the first i have no conflict left.
+-- Assumes nothing.
+use mathlib.Core.Path.{◌≡◌, refl, ap, ◌∙◌}
+use Prim.Native.Nat.{◌≤◌, ◌-◌}
+use native.Mathlib.Omega.{arith}
+use borrow.Author.Rules.{rules}
+use lib.ListN.{length, get_or, length-set}
+use Rattle.poly.specs.Inner.Ranges.{writes}
+use Rattle.poly.proofs.Writes.{writes_turn, writes_kept, writes_end, writes_map}
+use Rattle.session.specs.Arrived.{conflict_as_missing}
+use Rattle.session.proofs.clear_conflicts.Goals as goal
+
+pub loop-i-init : goal.loop-i-init
+unfolding writes
+loop-i-init c = (omega arith, refl, refl)
+
+pub loop-i-preserved : goal.loop-i-preserved
+loop-i-preserved c =
+    let l = c.loop-i in
+    let was = writes_kept _ _ l.places l.i l.invariant.2 in
+    let next = writes_turn _ _ l.places l.i _ l.invariant.2 (c.conflict_as_missing.ensures ∙ ap conflict_as_missing was) in
+    (omega arith, simp length-set l.invariant.1, next)
+
+pub returns : goal.returns
+returns c =
+    let l = c.loop-i in
+    writes_end _ _ l.places l.i _ l.invariant.2 l.invariant.0 (omega arith) ∙ writes_map conflict_as_missing _

@@ -1,0 +1,17 @@
+-- `session::clear_conflicts` meets its contract. The invariant of its loop: the first i have no conflict left.
+use mathlib.Core.Path.{◌≡◌, refl, ap, ◌∙◌}
+use Prim.Native.Nat.{◌≤◌, ◌-◌}
+use native.Mathlib.Omega.{arith}
+use borrow.Author.Rules.{rules}
+use lib.ListN.{length, get_or, length-set}
+use Rattle.poly.specs.Inner.Ranges.{writes}
+use Rattle.poly.proofs.Writes.{writes_turn, writes_kept, writes_end, writes_map}
+use Rattle.session.specs.Arrived.{conflict_as_missing}
+use Rattle.session.proofs.clear_conflicts.Given as goal
+
+abbrev pub invariant-loop-i : goal.invariant-loop-i
+invariant-loop-i l =
+    (l.i ≤ length l.initial.places) × (length l.places ≡ length l.initial.places) × (l.places ≡ writes l.initial.places l.i (λ j. conflict_as_missing (get_or l.initial.places j 0)))
+
+abbrev pub decreases-loop-i : goal.decreases-loop-i
+decreases-loop-i l = length l.initial.places - l.i

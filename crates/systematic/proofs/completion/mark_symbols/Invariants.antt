@@ -1,0 +1,18 @@
+-- `systematic::completion::mark_symbols` meets its contract. The invariant of its loop: the first p are written.
+use mathlib.Core.Logic.{⊎_elim}
+use mathlib.Core.Path.{◌≡◌, refl, ◌∙◌}
+use Prim.Native.Nat.{◌-◌, ◌*◌, ◌≤◌}
+use native.Mathlib.Omega.{arith}
+use lib.ListN.{length, length-set}
+use Rattle.poly.specs.Lists.{one_if}
+use Rattle.poly.specs.Inner.Ranges.{writes}
+use Rattle.poly.proofs.Writes.{writes_turn, writes_end}
+use Rattle.code.specs.Inner.Recovering.{present}
+use Rattle.systematic.proofs.TermSystems.{mark_gap, mark_symbol}
+use Rattle.systematic.proofs.completion.mark_symbols.Given as goal
+
+abbrev pub invariant-loop-p : goal.invariant-loop-p
+invariant-loop-p l = (l.p ≤ length l.word) × (length l.high ≡ length l.initial.high) × (l.high ≡ writes l.initial.high l.p (λ pp. 255 * one_if (present l.word pp)))
+
+abbrev pub decreases-loop-p : goal.decreases-loop-p
+decreases-loop-p l = length l.word - l.p

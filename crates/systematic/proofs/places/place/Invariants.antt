@@ -1,0 +1,15 @@
+-- `systematic::places::place` meets its contract: the first i symbols are laid out.
+use mathlib.Core.Path.{◌≡◌, refl, sym, ap, ◌∙◌}
+use Prim.Native.Nat.{◌-◌, ◌≤◌}
+use native.Mathlib.Nat.{le_antisymm}
+use native.Mathlib.Omega.{arith}
+use borrow.Author.Rules.{rules}
+use lib.ListN.{length, length-set}
+use Rattle.code.proofs.GridEntries.{laid, laid_none, laid_turn}
+use Rattle.systematic.proofs.places.place.Given as goal
+
+abbrev pub invariant-loop-i : goal.invariant-loop-i
+invariant-loop-i l = (l.i ≤ length l.places) × (length l.word ≡ length l.initial.word) × (l.word ≡ laid l.places l.symbols l.initial.word l.i)
+
+abbrev pub decreases-loop-i : goal.decreases-loop-i
+decreases-loop-i l = length l.places - l.i

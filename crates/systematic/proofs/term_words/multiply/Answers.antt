@@ -1,0 +1,74 @@
+-- `systematic::term_words::multiply` meets its contract: block by block.
+-- Assumes nothing.
+use mathlib.Core.List.{List}
+use mathlib.Core.Path.{◌≡◌, ap, ap₂, ◌∙◌, subst}
+use Prim.Native.Nat.{ℕ, ◌+◌, ◌-◌, ◌≤◌, ◌<◌}
+use native.Mathlib.Omega.{arith}
+use borrow.Author.Rules.{rules}
+use lib.ListN.{length, get_or}
+use Rattle.field.proofs.Fields.{field_of}
+use Rattle.poly.specs.Inner.Lanes.{lanes}
+use Rattle.poly.specs.Inner.Linear.{entry}
+use Rattle.poly.proofs.Parts.{length_part}
+use Rattle.poly.proofs.Fillings.{Filled, filled_none, filled_turn, filled_writes, filled_below}
+use Rattle.poly.proofs.LaneLaws.{length_lanes, lanes_at, lanes_below}
+use Rattle.systematic.proofs.term_words.multiply.Goals as goal
+use Rattle.systematic.proofs.term_words.multiply.Goals.{In-loop-j}
+
+-- what is written
+abbrev products : ℕ → List ℕ → List ℕ → ℕ → ℕ
+products q by row j = (field_of q).times (entry by j) (entry row j)
+
+-- what a block is given, in lanes
+product_at : (q : ℕ) (by row₀ row : List ℕ) (j : ℕ) → Filled 0 (products q by row₀) row₀ row j → (a old : List ℕ)
+    → a ≡ lanes (λ t. get_or by (j + t) 0) → old ≡ lanes (λ t. get_or row (j + t) 0)
+    → (t : ℕ) → t < 16 → (field_of q).times (entry a t) (entry old t) ≡ products q by row₀ (j + t)
+product_at q by row₀ row j h a old is-a is-old t l =
+    let z : 0 + (j + t) ≡ j + t = omega arith in
+    let kept : get_or row (j + t) 0 ≡ get_or row₀ (j + t) 0 = rw z at (h.rest (j + t) (omega arith)) in
+    ap₂ (field_of q).times
+    (ap (λ (x : List ℕ). get_or x t 0) is-a ∙ lanes_at _ t l)
+    (ap (λ (x : List ℕ). get_or x t 0) is-old ∙ lanes_at _ t l ∙ kept)
+
+-- a block is within the lists
+fits : (c : goal.In-loop-j) → (c.loop-j.j + 16 ≤ length c.loop-j.row) × (c.loop-j.j + 16 ≤ length c.args.by.now)
+    × (c.loop-j.j + 16 ≤ length c.args.row.now)
+fits c =
+    let l = c.loop-j in
+    let e : l.j + 16 ≤ length c.args.row.now = omega (arith, l.invariant.1.is_at, l.invariant.1.long, c.loop-j-test.true, c.requires.row_len.0) in
+    (omega (arith, l.invariant.1.long), omega (arith, c.requires.row_len.1), e)
+
+pub multiply_short-new-requires : goal.multiply_short-new-requires
+multiply_short-new-requires c =
+    let l = c.loop-j in
+    let n = (field_of c.args.q).size in (
+      rw c.take-a.ensures (lanes_below _ n (λ t k. c.requires.below.0 (l.j + t))),
+      rw c.take-old.ensures
+          (lanes_below _ n (λ t k. filled_below n _ c.args.row.now l.row l.j l.invariant.1 c.requires.below.1
+          (λ e. (field_of c.args.q).times_lt _ _) (l.j + t))),
+      c.requires.row_len.2,
+    )
+
+pub loop-j-preserved : goal.loop-j-preserved
+loop-j-preserved c =
+    let a = c.args in
+    let l = c.loop-j in
+    let f = fits (goal.at.loop-j-preserved c).In-loop-j in
+    let r = c.multiply_short-new in
+    let old = c.take-old in
+    let by = c.take-a in (
+      f.2,
+      filled_turn 0 _ a.row.now l.row l.j l.j l.invariant.1 (omega arith) f.0 _ _
+          (omega (arith, ap length r.ensures ∙ length_lanes _)) c.copy.ensures
+          (λ t k. ap (λ (x : List ℕ). get_or x t 0) r.ensures ∙ lanes_at _ t k
+          ∙ product_at a.q a.by.now a.row.now l.row l.j l.invariant.1 by.result old.result by.ensures old.ensures t k),
+    )
+
+pub returns : goal.returns
+returns c =
+    let a = c.args in
+    let l = c.loop-j in
+    let n = length a.row.now in
+    let e : l.j ≡ n = omega (arith, l.invariant.0, c.loop-j-test.false, l.invariant.1.long) in
+    filled_writes n _ a.row.now l.row (omega arith)
+    (subst (λ (x : ℕ). Filled 0 (products a.q a.by.now a.row.now) a.row.now l.row x) e l.invariant.1)

@@ -1,0 +1,24 @@
+-- `systematic::term_words::multiply` meets its contract: block by block.
+use mathlib.Core.List.{List}
+use mathlib.Core.Path.{◌≡◌, ap, ap₂, ◌∙◌, subst}
+use Prim.Native.Nat.{ℕ, ◌+◌, ◌-◌, ◌≤◌, ◌<◌}
+use native.Mathlib.Omega.{arith}
+use borrow.Author.Rules.{rules}
+use lib.ListN.{length, get_or}
+use Rattle.field.proofs.Fields.{field_of}
+use Rattle.poly.specs.Inner.Lanes.{lanes}
+use Rattle.poly.specs.Inner.Linear.{entry}
+use Rattle.poly.proofs.Parts.{length_part}
+use Rattle.poly.proofs.Fillings.{Filled, filled_none, filled_turn, filled_writes, filled_below}
+use Rattle.poly.proofs.LaneLaws.{length_lanes, lanes_at, lanes_below}
+use Rattle.systematic.proofs.term_words.multiply.Given as goal
+
+-- what is written
+abbrev products : ℕ → List ℕ → List ℕ → ℕ → ℕ
+products q by row j = (field_of q).times (entry by j) (entry row j)
+
+abbrev pub invariant-loop-j : goal.invariant-loop-j
+invariant-loop-j l = (l.j ≤ length l.initial.row) × Filled 0 (products l.q l.by l.initial.row) l.initial.row l.row l.j
+
+abbrev pub decreases-loop-j : goal.decreases-loop-j
+decreases-loop-j l = length l.initial.row - l.j

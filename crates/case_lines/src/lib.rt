@@ -4,28 +4,28 @@
 ghost use Rattle.std.specs.Prelude.{◌≤◌};
 
 use field::Outcome;
-use libc::STDOUT_FILENO;
+use std::io;
 
 // The number of two bytes.
 pub fn number(low: u8, high: u8) -> u16 {
     (low as u16) + 256 * (high as u16)
 }
 
-pub fn print_number(n: u16) {
-    io::print_decimal(STDOUT_FILENO, n as u64);
+pub fn print_number(rt: &impl Print, n: u16) -> io::Result<()> {
+    rt.print(n)
 }
 
-pub fn print_byte(n: u8) {
-    print_number(n as u16);
+pub fn print_byte(rt: &impl Print, n: u8) -> io::Result<()> {
+    print_number(rt, n as u16)
 }
 
 // The op and the two numbers of the answer, each with a space after it.
-pub fn print_answer(op: u8, outcome: Outcome) {
-    io::write_all(STDOUT_FILENO, &[op, b' ']);
-    print_byte(field::outcome::number(outcome));
-    io::write_all(STDOUT_FILENO, &[b' ']);
-    print_number(field::outcome::second(outcome));
-    io::write_all(STDOUT_FILENO, &[b' ']);
+pub fn print_answer(rt: &impl Print, op: u8, outcome: Outcome) -> io::Result<()> {
+    rt.write_all(&[op, b' '])?;
+    print_byte(rt, field::outcome::number(outcome))?;
+    rt.write_all(&[b' '])?;
+    print_number(rt, field::outcome::second(outcome))?;
+    rt.write_all(&[b' '])
 }
 
 // As many values as a line has room for.
@@ -36,7 +36,7 @@ fn room(length: usize) -> usize
 }
 
 // Two hexadecimal digits for each of the first 560 values, and the byte after them.
-pub fn print_values(values: &[u8], after: u8) {
+pub fn print_values(rt: &impl Print, values: &[u8], after: u8) -> io::Result<()> {
     let mut text = [after; 1121];
     let mut at = 0;
     let mut j = 0;
@@ -48,5 +48,5 @@ pub fn print_values(values: &[u8], after: u8) {
         j += 1;
     }
     let end = at + 1;
-    io::write_all(STDOUT_FILENO, &text[..end]);
+    rt.write_all(&text[..end])
 }

@@ -7,8 +7,9 @@ ghost use Rattle.std.specs.Prelude.{◌≡◌, ◌≤◌, length};
 use case_lines::{number, print_answer, print_byte, print_number, print_values};
 use field::Outcome;
 use job::{Job, Opening};
-use libc::{STDIN_FILENO, STDOUT_FILENO};
+use reading::read_full;
 use session::{Reply, Session};
+use std::io;
 
 // The length of a slice in a record, which has room for 72 bytes.
 fn room(length: usize) -> usize
@@ -27,7 +28,7 @@ fn series(record: [u8; 160]) -> u8 {
     record[154] ^ 1
 }
 
-fn field_case(op: u8, q: u8, a: u8, b: u8) {
+fn field_case(rt: &impl Print, op: u8, q: u8, a: u8, b: u8) -> io::Result<()> {
     let answer = match op {
         b'+' => field::entry::sum(q, a, b),
         b'*' => field::entry::product(q, a, b),
@@ -35,9 +36,9 @@ fn field_case(op: u8, q: u8, a: u8, b: u8) {
     };
     let outcome = answer.outcome;
     let symbol = answer.symbol;
-    print_answer(op, outcome);
-    print_byte(symbol);
-    io::write_all(STDOUT_FILENO, &[b'\n']);
+    print_answer(rt, op, outcome)?;
+    print_byte(rt, symbol)?;
+    rt.write_all(&[b'\n'])
 }
 
 fn run_on_slices(
@@ -59,6 +60,7 @@ fn run_on_slices(
 }
 
 fn slice_answer(
+    rt: &impl Print,
     op: u8,
     q: u8,
     series: u8,
@@ -66,17 +68,18 @@ fn slice_answer(
     session: Session,
     input: &[u8],
     output: &mut [u8],
-) {
+) -> io::Result<()> {
     let outcome = run_on_slices(op, q, series, m, session, input, output);
-    print_answer(op, outcome);
-    print_values(output, b'\n');
+    print_answer(rt, op, outcome)?;
+    print_values(rt, output, b'\n')
 }
 
-fn slice_case(session: Session, record: [u8; 160]) {
+fn slice_case(rt: &impl Print, session: Session, record: [u8; 160]) -> io::Result<()> {
     let mut lent = record;
     let input_end = 8 + room(record[3] as usize);
     let output_end = 80 + room(record[4] as usize);
     slice_answer(
+        rt,
         record[0],
         record[1],
         series(record),
@@ -84,10 +87,11 @@ fn slice_case(session: Session, record: [u8; 160]) {
         session,
         &record[8..input_end],
         &mut lent[80..output_end],
-    );
+    )
 }
 
 fn mend_answer(
+    rt: &impl Print,
     q: u8,
     series: u8,
     m: u16,
@@ -95,20 +99,20 @@ fn mend_answer(
     message: &mut [u8],
     mended: &mut [u8],
     marks: &mut [u8],
-) {
+) -> io::Result<()> {
     let reply = mend::mend(q, series, m, word, message, mended, marks);
     let outcome = reply.outcome;
     let count = reply.count;
-    print_answer(b'm', outcome);
-    print_byte(count);
-    io::write_all(STDOUT_FILENO, &[b' ']);
-    print_values(message, b' ');
-    print_values(mended, b' ');
-    print_values(marks, b'\n');
+    print_answer(rt, b'm', outcome)?;
+    print_byte(rt, count)?;
+    rt.write_all(&[b' '])?;
+    print_values(rt, message, b' ')?;
+    print_values(rt, mended, b' ')?;
+    print_values(rt, marks, b'\n')
 }
 
 // Each slice of the mender is lent from a copy of the record of its own.
-fn mend_case(record: [u8; 160]) {
+fn mend_case(rt: &impl Print, record: [u8; 160]) -> io::Result<()> {
     let mut message = record;
     let mut mended = record;
     let mut marks = record;
@@ -117,6 +121,7 @@ fn mend_case(record: [u8; 160]) {
     let mended_end = 80 + room(record[5] as usize);
     let marks_end = 80 + room(record[6] as usize);
     mend_answer(
+        rt,
         record[1],
         series(record),
         order(record),
@@ -124,7 +129,7 @@ fn mend_case(record: [u8; 160]) {
         &mut message[80..message_end],
         &mut mended[80..mended_end],
         &mut marks[80..marks_end],
-    );
+    )
 }
 
 // 64 bytes of a record, from `start` on.
@@ -165,28 +170,29 @@ fn session_reply(session: Session, record: [u8; 160]) -> Reply {
 }
 
 // The series of a session or job after its q, but for series 1.
-fn print_series(series: u8) {
+fn print_series(rt: &impl Print, series: u8) -> io::Result<()> {
     if series != 1 {
-        io::write_all(STDOUT_FILENO, &[b'/']);
-        print_byte(series);
+        rt.write_all(&[b'/'])?;
+        print_byte(rt, series)?;
     }
+    Ok(())
 }
 
-fn session_case(session: Session, record: [u8; 160]) -> Session {
+fn session_case(rt: &impl Print, session: Session, record: [u8; 160]) -> io::Result<Session> {
     let reply = session_reply(session, record);
     let next = reply.session;
     let outcome = reply.outcome;
     let places = next.places;
     let rounds = next.rounds;
-    print_answer(record[0], outcome);
-    print_byte(next.q);
-    print_series(next.series);
-    io::write_all(STDOUT_FILENO, &[b' ']);
-    print_number(next.m);
-    io::write_all(STDOUT_FILENO, &[b' ']);
-    print_values(&places, b' ');
-    print_values(&rounds, b'\n');
-    next
+    print_answer(rt, record[0], outcome)?;
+    print_byte(rt, next.q)?;
+    print_series(rt, next.series)?;
+    rt.write_all(&[b' '])?;
+    print_number(rt, next.m)?;
+    rt.write_all(&[b' '])?;
+    print_values(rt, &places, b' ')?;
+    print_values(rt, &rounds, b'\n')?;
+    Ok(next)
 }
 
 // The places of eighteen arrivals, of which each has four bytes of the input: the place, the symbol and the round.
@@ -217,7 +223,12 @@ fn every_fourth(start: usize, record: [u8; 160]) -> [u8; 18]
     bytes
 }
 
-fn replay_answer(record: [u8; 160], count: usize, message: &mut [u8])
+fn replay_answer(
+    rt: &impl Print,
+    record: [u8; 160],
+    count: usize,
+    message: &mut [u8],
+) -> io::Result<()>
     requires { count ≤ 18 }
 {
     let places = arrival_places(record);
@@ -232,36 +243,45 @@ fn replay_answer(record: [u8; 160], count: usize, message: &mut [u8])
         &rounds[..count],
         message,
     );
-    print_answer(b'p', outcome);
-    print_values(message, b'\n');
+    print_answer(rt, b'p', outcome)?;
+    print_values(rt, message, b'\n')
 }
 
-fn replay_case(record: [u8; 160]) {
+fn replay_case(rt: &impl Print, record: [u8; 160]) -> io::Result<()> {
     let mut lent = record;
     let message_end = 80 + room(record[4] as usize);
     let count = room(record[3] as usize) / 4;
-    replay_answer(record, count, &mut lent[80..message_end]);
+    replay_answer(rt, record, count, &mut lent[80..message_end])
 }
 
-fn turns_answer(q: u8, series: u8, m: u16, word: &[u8], budgets: &[u8], message: &mut [u8]) {
+fn turns_answer(
+    rt: &impl Print,
+    q: u8,
+    series: u8,
+    m: u16,
+    word: &[u8],
+    budgets: &[u8],
+    message: &mut [u8],
+) -> io::Result<()> {
     let outcome = job::turns::recover_in_turns(q, series, m, word, budgets, message);
-    print_answer(b't', outcome);
-    print_values(message, b'\n');
+    print_answer(rt, b't', outcome)?;
+    print_values(rt, message, b'\n')
 }
 
-fn turns_case(record: [u8; 160]) {
+fn turns_case(rt: &impl Print, record: [u8; 160]) -> io::Result<()> {
     let mut lent = record;
     let budgets = [record[5], record[6], record[7]];
     let word_end = 8 + room(record[3] as usize);
     let message_end = 80 + room(record[4] as usize);
     turns_answer(
+        rt,
         record[1],
         series(record),
         order(record),
         &record[8..word_end],
         &budgets,
         &mut lent[80..message_end],
-    );
+    )
 }
 
 // The places of a record, of a byte each.
@@ -289,26 +309,35 @@ fn chosen_places(record: [u8; 160]) -> [u16; 72]
     places
 }
 
-fn encode_at_answer(q: u8, series: u8, m: u16, places: &[u16], symbols: &[u8], word: &mut [u8]) {
+fn encode_at_answer(
+    rt: &impl Print,
+    q: u8,
+    series: u8,
+    m: u16,
+    places: &[u16],
+    symbols: &[u8],
+    word: &mut [u8],
+) -> io::Result<()> {
     let outcome = systematic::encode_at(q, series, m, places, symbols, word);
-    print_answer(b'E', outcome);
-    print_values(word, b'\n');
+    print_answer(rt, b'E', outcome)?;
+    print_values(rt, word, b'\n')
 }
 
-fn encode_at_case(record: [u8; 160]) {
+fn encode_at_case(rt: &impl Print, record: [u8; 160]) -> io::Result<()> {
     let places = chosen_places(record);
     let mut word = [record[7]; 72];
     let count = room(record[3] as usize);
     let symbols_end = 80 + room(record[4] as usize);
     let word_end = room(record[5] as usize);
     encode_at_answer(
+        rt,
         record[1],
         series(record),
         order(record),
         &places[..count],
         &record[80..symbols_end],
         &mut word[..word_end],
-    );
+    )
 }
 
 fn run_on_columns(
@@ -326,14 +355,22 @@ fn run_on_columns(
     }
 }
 
-fn columns_answer(op: u8, q: u8, columns: &[u8], m: u16, input: &[u8], output: &mut [u8]) {
+fn columns_answer(
+    rt: &impl Print,
+    op: u8,
+    q: u8,
+    columns: &[u8],
+    m: u16,
+    input: &[u8],
+    output: &mut [u8],
+) -> io::Result<()> {
     let outcome = run_on_columns(op, q, columns, m, input, output);
-    print_answer(op, outcome);
-    print_values(output, b'\n');
+    print_answer(rt, op, outcome)?;
+    print_values(rt, output, b'\n')
 }
 
 // The columns stand where other records have the output slice, whose bytes are all that of byte 7. They are lent from a copy.
-fn columns_case(record: [u8; 160]) {
+fn columns_case(rt: &impl Print, record: [u8; 160]) -> io::Result<()> {
     let listed = record;
     let mut output = [record[7]; 72];
     let m = order(record);
@@ -341,72 +378,47 @@ fn columns_case(record: [u8; 160]) {
     let columns_end = 80 + room(record[4] as usize);
     let output_end = room(record[5] as usize);
     columns_answer(
+        rt,
         record[0],
         record[1],
         &listed[80..columns_end],
         m,
         &record[8..input_end],
         &mut output[..output_end],
-    );
-}
-
-fn check_answer(q: u8, series: u8, m: u16, word: &[u8]) {
-    let reply = dual::check(q, series, m, word);
-    let outcome = reply.outcome;
-    let codeword = reply.codeword;
-    print_answer(b'v', outcome);
-    if codeword {
-        io::write_all(STDOUT_FILENO, b"yes\n");
-    } else {
-        io::write_all(STDOUT_FILENO, b"no\n");
-    }
-}
-
-fn check_case(record: [u8; 160]) {
-    let word_end = 8 + room(record[3] as usize);
-    check_answer(
-        record[1],
-        series(record),
-        order(record),
-        &record[8..word_end],
-    );
+    )
 }
 
 // Runs a case of no job at the current session and answers the one after it.
-fn run_case(session: Session, record: [u8; 160]) -> Session {
+fn run_case(rt: &impl Print, session: Session, record: [u8; 160]) -> io::Result<Session> {
     match record[0] {
         b'+' | b'*' | b'i' => {
-            field_case(record[0], record[1], record[5], record[6]);
-            session
+            field_case(rt, record[0], record[1], record[5], record[6])?;
+            Ok(session)
         }
-        b'o' | b's' | b'a' => session_case(session, record),
+        b'o' | b's' | b'a' => session_case(rt, session, record),
         b'm' => {
-            mend_case(record);
-            session
+            mend_case(rt, record)?;
+            Ok(session)
         }
         b'p' => {
-            replay_case(record);
-            session
+            replay_case(rt, record)?;
+            Ok(session)
         }
         b't' => {
-            turns_case(record);
-            session
+            turns_case(rt, record)?;
+            Ok(session)
         }
         b'E' => {
-            encode_at_case(record);
-            session
+            encode_at_case(rt, record)?;
+            Ok(session)
         }
         b'X' | b'U' | b'R' => {
-            columns_case(record);
-            session
-        }
-        b'v' => {
-            check_case(record);
-            session
+            columns_case(rt, record)?;
+            Ok(session)
         }
         _ => {
-            slice_case(session, record);
-            session
+            slice_case(rt, session, record)?;
+            Ok(session)
         }
     }
 }
@@ -425,51 +437,45 @@ fn job_opening(session: Session, record: [u8; 160]) -> Opening {
     }
 }
 
-fn opening_case(session: Session, record: [u8; 160]) -> Job {
+fn opening_case(rt: &impl Print, session: Session, record: [u8; 160]) -> io::Result<Job> {
     let opening = job_opening(session, record);
     let next = opening.job;
     let outcome = opening.outcome;
     let places = next.places;
-    print_answer(record[0], outcome);
-    print_byte(next.q);
-    print_series(next.series);
-    io::write_all(STDOUT_FILENO, &[b' ']);
-    print_number(next.m);
-    io::write_all(STDOUT_FILENO, &[b' ']);
-    print_values(&places, b'\n');
-    next
+    print_answer(rt, record[0], outcome)?;
+    print_byte(rt, next.q)?;
+    print_series(rt, next.series)?;
+    rt.write_all(&[b' '])?;
+    print_number(rt, next.m)?;
+    rt.write_all(&[b' '])?;
+    print_values(rt, &places, b'\n')?;
+    Ok(next)
 }
 
 // What a call says of the job, with a space before and after it.
-fn print_kind(reply: job::Reply) {
+fn print_kind(rt: &impl Print, reply: job::Reply) -> io::Result<()> {
     match reply {
-        job::Reply::Refused => {
-            io::write_all(STDOUT_FILENO, b" refused ");
-        }
-        job::Reply::NoneFits | job::Reply::Leaves(_) => {
-            io::write_all(STDOUT_FILENO, b" working ");
-        }
-        job::Reply::Finished(_) => {
-            io::write_all(STDOUT_FILENO, b" finished ");
-        }
+        job::Reply::Refused => rt.write_all(b" refused "),
+        job::Reply::NoneFits | job::Reply::Leaves(_) => rt.write_all(b" working "),
+        job::Reply::Finished(_) => rt.write_all(b" finished "),
     }
 }
 
-fn call_answer(job: Job, budget: u8, message: &mut [u8]) -> Job {
+fn call_answer(rt: &impl Print, job: Job, budget: u8, message: &mut [u8]) -> io::Result<Job> {
     let turn = job.carry_on(budget, message);
     let next = turn.job;
     let reply = turn.reply;
-    print_answer(b'c', job::outcome(reply));
-    print_byte(turn.brought);
-    print_kind(reply);
-    print_values(message, b'\n');
-    next
+    print_answer(rt, b'c', job::outcome(reply))?;
+    print_byte(rt, turn.brought)?;
+    print_kind(rt, reply)?;
+    print_values(rt, message, b'\n')?;
+    Ok(next)
 }
 
-fn call_case(job: Job, record: [u8; 160]) -> Job {
+fn call_case(rt: &impl Print, job: Job, record: [u8; 160]) -> io::Result<Job> {
     let mut lent = record;
     let message_end = 80 + room(record[4] as usize);
-    call_answer(job, record[5], &mut lent[80..message_end])
+    call_answer(rt, job, record[5], &mut lent[80..message_end])
 }
 
 // Work bytes of which only the diagonal is set.
@@ -551,12 +557,12 @@ fn keeps_slice(job: Job, record: [u8; 160]) -> bool {
     true
 }
 
-fn raw_job_case(record: [u8; 160]) {
-    print_answer(b'y', Outcome::Done);
+fn raw_job_case(rt: &impl Print, record: [u8; 160]) -> io::Result<()> {
+    print_answer(rt, b'y', Outcome::Done)?;
     if keeps_slice(raw_job(record), record) {
-        io::write_all(STDOUT_FILENO, b"kept\n");
+        rt.write_all(b"kept\n")
     } else {
-        io::write_all(STDOUT_FILENO, b"changed\n");
+        rt.write_all(b"changed\n")
     }
 }
 
@@ -568,35 +574,35 @@ fn is_of_job(op: u8) -> bool {
 }
 
 // Runs a case of a job at the current session and job and answers the job after it.
-fn run_job_case(session: Session, job: Job, record: [u8; 160]) -> Job {
+fn run_job_case(rt: &impl Print, session: Session, job: Job, record: [u8; 160]) -> io::Result<Job> {
     match record[0] {
-        b'j' | b'J' => opening_case(session, record),
-        b'c' => call_case(job, record),
+        b'j' | b'J' => opening_case(rt, session, record),
+        b'c' => call_case(rt, job, record),
         _ => {
-            raw_job_case(record);
-            job
+            raw_job_case(rt, record)?;
+            Ok(job)
         }
     }
 }
 
-// The loop counts its turns down from a number that no input reaches, since a proved loop has to end.
-fn main() {
+// The loop has a number of turns that no input reaches, since a proved loop has to end.
+fn main(rt: HostRuntime) -> io::Result<()> {
     let refused = session::open(0, 1, 0);
     let refused_job = job::open(0, 1, 0, &[]);
     let mut session = refused.session;
     let mut job = refused_job.job;
-    let mut turns = u64::MAX;
-    while turns > 0 {
+    let mut from = rt.stdin();
+    for _ in 0..u64::MAX {
         let mut record = [0u8; 160];
-        let n = io::read_full(STDIN_FILENO, &mut record);
+        let n = read_full(&mut from, &mut record)?;
         if n < 160 {
-            return;
+            break;
         }
         if is_of_job(record[0]) {
-            job = run_job_case(session, job, record);
+            job = run_job_case(&rt, session, job, record)?;
         } else {
-            session = run_case(session, record);
+            session = run_case(&rt, session, record)?;
         }
-        turns -= 1;
     }
+    Ok(())
 }

@@ -2,13 +2,13 @@
 -- Assumes nothing.
 use mathlib.Core.Bool.{true, false, not}
 use mathlib.Core.List.{List}
-use mathlib.Core.Path.{◌≡◌, refl, sym}
-use Prim.Native.Nat.{ℕ, ◌*◌, ◌≤◌, ◌<◌}
+use mathlib.Core.Path.{◌≡◌, sym}
+use Prim.Native.Nat.{ℕ, ◌*◌, ◌≤◌}
 use native.Mathlib.Decide.{ℕ_discrete}
 use native.Mathlib.Omega.{arith}
 use borrow.Author.Tests.{ne_eqb, eq-eqb}
 use lib.Dec.{T, eqb, T_not}
-use lib.ListN.{length, get_or}
+use lib.ListN.{length}
 use Rattle.field.specs.Curve.{IsCurve}
 use Rattle.field.proofs.Search.{both}
 use Rattle.poly.specs.Ascending.{is_ascending_below}

@@ -1,7 +1,7 @@
 -- Values of the definitions, one table with one theorem for all rows: at q = 2 the paper's message 1 2 3 over some of the columns, the divisor
 -- that isn't 1, and the refusals in their order.
 -- Assumes nothing.
-use mathlib.Core.List.{List, [], ◌∷◌, ◌++◌, map, flat_map}
+use mathlib.Core.List.{List, [], ◌∷◌, map, flat_map}
 use mathlib.Core.Path.{◌≡◌, refl}
 use Prim.Native.Nat.{ℕ}
 use Rattle.field.specs.Plus.{plus}

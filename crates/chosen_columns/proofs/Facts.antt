@@ -1,16 +1,15 @@
 -- What holds of the calls over every list of columns: encoding writes the values of the message's polynomial, unencoding is exact and inverse to
 -- it, recovery says how many messages fit, and m + 1 symbols are enough.
 -- Assumes nothing.
-use mathlib.Core.Bool.{Bool, true, false, cond}
+use mathlib.Core.Bool.{true, false}
 use mathlib.Core.List.{List, Memᴰ as Mem}
-use mathlib.Core.Logic.{◌↔◌, ⊎_elim, inl, inr}
+use mathlib.Core.Logic.{◌↔◌}
 use mathlib.Core.Path.{◌≡◌, refl, sym, ap, ap₂, ◌∙◌, subst}
 use Prim.Native.Nat.{ℕ, ◌+◌, ◌*◌, ◌^◌, ◌≤◌, ◌<◌}
 use native.Mathlib.Omega.{arith}
 use lib.ListN.{length, get_or}
 use Rattle.field.specs.Curve.{IsShort}
 use Rattle.field.specs.Outcomes.{number}
-use Rattle.field.specs.declared.outcome.Outcome.{Outcome}
 use Rattle.field.specs.declared.outcome.Outcome.TheVariants.{Done, NoMessage, Several}
 use Rattle.field.proofs.Curves.{short_curve, two_symbols}
 use Rattle.poly.specs.Lists.{Nodup}
@@ -24,12 +23,11 @@ use Rattle.code.specs.Terms.{size}
 use Rattle.code.specs.Word.{value_at, word_of}
 use Rattle.code.specs.Fitting.{fitting}
 use Rattle.code.specs.Answers.{Answer, answered}
-use Rattle.code.specs.Recovered.{Reading, nothing, message, several, reading, answer_of}
+use Rattle.code.specs.Recovered.{Reading, reading, answer_of}
 use Rattle.code.specs.Inner.Readable.{read_over}
 use Rattle.code.proofs.Answers.{not_refused, past}
 use Rattle.code.proofs.Checks.{Accepted, good_symbol, symbol_of_good, value_of_good}
-use Rattle.code.proofs.Facts.{BrokenOf, FactsOver, facts_over}
-use Rattle.code.proofs.Fitting.{Fits}
+use Rattle.code.proofs.Facts.{FactsOver, facts_over}
 use Rattle.code.proofs.Inverse.{word_vector, words_differ, read_own, read_found, read_refuses}
 use Rattle.code.proofs.Readings.{Fitting, fitting_list, length_fitting, reads_nothing, reads_message, reads_several}
 use Rattle.code.proofs.Recoveries.{answer_nothing, answer_message, answer_several}

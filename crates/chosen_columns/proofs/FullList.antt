@@ -2,12 +2,11 @@
 -- Assumes nothing.
 use mathlib.Core.Bool.{Bool, true, false}
 use mathlib.Core.List.{List}
-use mathlib.Core.Path.{◌≡◌, refl, sym, ap, ap₂, ◌∙◌}
+use mathlib.Core.Path.{◌≡◌, sym, ap, ap₂, ◌∙◌}
 use Prim.Native.Nat.{ℕ, ◌*◌}
 use native.Mathlib.Omega.{arith}
 use lib.ListN.{length}
 use Rattle.field.specs.Curve.{is_curve, is_short, IsShort}
-use Rattle.field.specs.Outcomes.{refuse}
 use Rattle.field.specs.declared.outcome.Outcome.{Outcome}
 use Rattle.field.specs.declared.outcome.Outcome.TheVariants.{Done}
 use Rattle.field.proofs.Curves.{sizes, short_curve, short_true, curve_true, two_symbols}
@@ -19,7 +18,7 @@ use Rattle.points.proofs.Series.{first_columns}
 use Rattle.code.specs.Terms.{size}
 use Rattle.code.specs.Word.{word_of}
 use Rattle.code.specs.Fitting.{fitting}
-use Rattle.code.specs.Answers.{Answer, answered, unless_refused}
+use Rattle.code.specs.Answers.{answered, unless_refused}
 use Rattle.code.specs.Checks.{curve_checks, order_checks, call_checks}
 use Rattle.code.specs.Encoded.{encoded}
 use Rattle.code.specs.Unencoded.{the_message, unencoded}

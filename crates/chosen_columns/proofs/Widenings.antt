@@ -3,15 +3,14 @@
 use mathlib.Core.Bool.{Bool}
 use mathlib.Core.List.{List}
 use mathlib.Core.Logic.{◌⊎◌, inl, inr, ◌↔◌, ⊎_elim}
-use mathlib.Core.Path.{◌≡◌, refl, sym, ap, ◌∙◌, subst}
+use mathlib.Core.Path.{◌≡◌, sym, ap, ◌∙◌, subst}
 use Prim.Native.Nat.{ℕ, ◌+◌, ◌*◌, ◌/◌, ◌%◌, ◌≤◌, ◌<◌}
 use native.Mathlib.Nat.{div-add-mod, mul-le-mul_left}
 use native.Mathlib.Decide.{ℕ_discrete}
 use native.Mathlib.Omega.{arith}
 use lib.ListN.{length, get_or, take, replicate, get_or-replicate}
 use lib.Seq.{get_or-take}
-use Rattle.field.specs.Curve.{IsShort}
-use Rattle.field.proofs.Curves.{sizes, short_curve}
+use Rattle.field.proofs.Curves.{sizes}
 use Rattle.field.proofs.Fields.{field_of}
 use Rattle.poly.specs.Lists.{filter}
 use Rattle.poly.specs.Messages.{all}
@@ -21,7 +20,7 @@ use Rattle.poly.proofs.Blocks.{block_of, block_fits}
 use Rattle.points.specs.Points.{ys_of}
 use Rattle.points.specs.Series.{columns_of}
 use Rattle.points.specs.Inner.Columns.{Columns}
-use Rattle.points.proofs.ColumnPoints.{up_to_at, columns_few}
+use Rattle.points.proofs.ColumnPoints.{up_to_at}
 use Rattle.points.proofs.Series.{first_columns, full_columns, length_columns, full_places}
 use Rattle.code.specs.Terms.{size}
 use Rattle.code.specs.Word.{word_of, value_at}

@@ -1,6 +1,6 @@
 -- How recovery of long blocks goes past its checks, and when its work slice is kept; and what holds of short blocks holds of long ones.
 -- Assumes nothing.
-use mathlib.Core.Bool.{true, false, ◌||◌, false≢true}
+use mathlib.Core.Bool.{true, ◌||◌, false≢true}
 use mathlib.Core.List.{List}
 use mathlib.Core.Path.{◌≡◌, refl, sym, ap, ◌∙◌}
 use Prim.Native.Nat.{ℕ}

@@ -9,7 +9,7 @@ use borrow.Author.Tests.{lt-ltb, le-ltb, ltb-false, eq-eqb, ne_eqb, eqb-true, no
 use lib.Dec.{eqb, ltb}
 use lib.ListN.{length, get_or}
 use Rattle.field.specs.Curve.{is_curve, IsCurve, curve_of}
-use Rattle.field.specs.Outcomes.{number, refuse}
+use Rattle.field.specs.Outcomes.{number}
 use Rattle.field.specs.declared.outcome.Outcome.{Outcome}
 use Rattle.field.specs.declared.outcome.Outcome.TheVariants.{Done, BadOrder, BadLength, LowOrder}
 use Rattle.field.proofs.Curves.{each_curve, sizes, curve_true, curve_of_true}

@@ -6,7 +6,8 @@ ghost use Rattle.std.specs.Prelude.{◌≤◌};
 
 use case_lines::{number, print_answer, print_values};
 use field::Outcome;
-use libc::{STDIN_FILENO, STDOUT_FILENO};
+use reading::read_full;
+use std::io;
 
 // The length of a slice in a record, which has room for 560 bytes.
 fn room(length: usize) -> usize
@@ -24,10 +25,18 @@ fn run_on_slices(op: u8, q: u8, series: u8, m: u16, input: &[u8], output: &mut [
     }
 }
 
-fn slice_answer(op: u8, q: u8, series: u8, m: u16, input: &[u8], output: &mut [u8]) {
+fn slice_answer(
+    rt: &impl Print,
+    op: u8,
+    q: u8,
+    series: u8,
+    m: u16,
+    input: &[u8],
+    output: &mut [u8],
+) -> io::Result<()> {
     let outcome = run_on_slices(op, q, series, m, input, output);
-    print_answer(op, outcome);
-    print_values(output, b'\n');
+    print_answer(rt, op, outcome)?;
+    print_values(rt, output, b'\n')
 }
 
 // The length of the work slice that a record asks for.
@@ -64,21 +73,29 @@ fn leaves_work_open(outcome: Outcome) -> bool {
 }
 
 // What became of the work slice, and the end of the line.
-fn print_work(outcome: Outcome, work: &[u8], byte: u8) {
+fn print_work(rt: &impl Print, outcome: Outcome, work: &[u8], byte: u8) -> io::Result<()> {
     if leaves_work_open(outcome) {
-        io::write_all(STDOUT_FILENO, b"open\n");
+        rt.write_all(b"open\n")
     } else if is_filled(work, byte) {
-        io::write_all(STDOUT_FILENO, b"kept\n");
+        rt.write_all(b"kept\n")
     } else {
-        io::write_all(STDOUT_FILENO, b"changed\n");
+        rt.write_all(b"changed\n")
     }
 }
 
-fn long_answer(series: u8, m: u16, word: &[u8], message: &mut [u8], work: &mut [u8], byte: u8) {
+fn long_answer(
+    rt: &impl Print,
+    series: u8,
+    m: u16,
+    word: &[u8],
+    message: &mut [u8],
+    work: &mut [u8],
+    byte: u8,
+) -> io::Result<()> {
     let outcome = recovery::recover_long(series, m, word, message, work);
-    print_answer(b'l', outcome);
-    print_values(message, b' ');
-    print_work(outcome, work, byte);
+    print_answer(rt, b'l', outcome)?;
+    print_values(rt, message, b' ')?;
+    print_work(rt, outcome, work, byte)
 }
 
 // The order of a record.
@@ -105,21 +122,22 @@ fn output_end(record: [u8; 1136]) -> usize
     576 + room(number(record[6], record[7]) as usize)
 }
 
-fn slice_case(record: [u8; 1136]) {
+fn slice_case(rt: &impl Print, record: [u8; 1136]) -> io::Result<()> {
     let mut lent = record;
     let word_end = input_end(record);
     let message_end = output_end(record);
     slice_answer(
+        rt,
         record[0],
         record[1],
         series(record),
         order(record),
         &record[16..word_end],
         &mut lent[576..message_end],
-    );
+    )
 }
 
-fn long_case(record: [u8; 1136]) {
+fn long_case(rt: &impl Print, record: [u8; 1136]) -> io::Result<()> {
     let byte = record[9];
     let mut lent = record;
     let mut work = [byte; 262145];
@@ -127,61 +145,33 @@ fn long_case(record: [u8; 1136]) {
     let message_end = output_end(record);
     let work_end = work_length(record[8]);
     long_answer(
+        rt,
         series(record),
         order(record),
         &record[16..word_end],
         &mut lent[576..message_end],
         &mut work[0..work_end],
         byte,
-    );
+    )
 }
 
-fn check_answer(q: u8, series: u8, m: u16, word: &[u8]) {
-    let reply = dual::check(q, series, m, word);
-    let outcome = reply.outcome;
-    let codeword = reply.codeword;
-    print_answer(b'v', outcome);
-    if codeword {
-        io::write_all(STDOUT_FILENO, b"yes\n");
-    } else {
-        io::write_all(STDOUT_FILENO, b"no\n");
-    }
-}
-
-fn check_case(record: [u8; 1136]) {
-    let word_end = input_end(record);
-    check_answer(
-        record[1],
-        series(record),
-        order(record),
-        &record[16..word_end],
-    );
-}
-
-fn run_case(record: [u8; 1136]) {
+fn run_case(rt: &impl Print, record: [u8; 1136]) -> io::Result<()> {
     match record[0] {
-        b'l' => {
-            long_case(record);
-        }
-        b'v' => {
-            check_case(record);
-        }
-        _ => {
-            slice_case(record);
-        }
+        b'l' => long_case(rt, record),
+        _ => slice_case(rt, record),
     }
 }
 
-// The loop counts its turns down from a number that no input reaches, since a proved loop has to end.
-fn main() {
-    let mut turns = u64::MAX;
-    while turns > 0 {
+// The loop has a number of turns that no input reaches, since a proved loop has to end.
+fn main(rt: HostRuntime) -> io::Result<()> {
+    let mut from = rt.stdin();
+    for _ in 0..u64::MAX {
         let mut record = [0u8; 1136];
-        let n = io::read_full(STDIN_FILENO, &mut record);
+        let n = read_full(&mut from, &mut record)?;
         if n < 1136 {
-            return;
+            break;
         }
-        run_case(record);
-        turns -= 1;
+        run_case(&rt, record)?;
     }
+    Ok(())
 }

@@ -1,24 +1,28 @@
 // Reads records of 64 bytes from standard input and prints a page of 17 lines for each.
 #![tactic(auto)]
 
-use libc::{STDIN_FILENO, STDOUT_FILENO};
+use reading::read_full;
+use std::io;
+use std::io::Read;
 
 // A number of turns that no input reaches: a proved loop has to end.
 const MOST: usize = 1 << 60;
 
 // Reads up to 128 records and prints their pages. Answers whether more may follow.
-fn print_pages() -> bool {
+fn print_pages(rt: &impl Print, from: &mut impl Read) -> io::Result<bool> {
     let mut blocks = [0u8; 8192];
-    let n = io::read_full(STDIN_FILENO, &mut blocks);
+    let n = read_full(from, &mut blocks)?;
     let mut out = [0u8; 41344];
     let used = lines::page::pages(&blocks[..n], &mut out);
-    let is_written = io::write_all(STDOUT_FILENO, &out[..used]);
-    is_written && n == 8192
+    rt.write_all(&out[..used])?;
+    Ok(n == 8192)
 }
 
-fn main() {
+fn main(rt: HostRuntime) -> io::Result<()> {
+    let mut from = rt.stdin();
     let mut turn = 0;
-    while turn < MOST && print_pages() {
+    while turn < MOST && print_pages(&rt, &mut from)? {
         turn += 1;
     }
+    Ok(())
 }

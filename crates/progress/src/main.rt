@@ -6,8 +6,10 @@ ghost use Rattle.std.specs.Prelude.{◌+◌, ◌≤◌, length};
 
 use field::Outcome;
 use job::{Job, Reply};
-use libc::{STDIN_FILENO, STDOUT_FILENO};
 use lines::text;
+use reading::read_full;
+use std::io;
+use std::io::Read;
 
 // The symbols that a call may bring in before the display draws again.
 const BUDGET: u8 = 8;
@@ -70,20 +72,27 @@ fn turn_text(reply: Reply, message: [u8; 32], at: usize, out: &mut [u8]) -> usiz
 }
 
 // Prints the first bytes of a line. 108 bytes hold any: three numbers of 20, a byte after each, and the text of a turn.
-fn print_first(end: usize, line: [u8; 108])
+fn print_first(rt: &impl Print, end: usize, line: [u8; 108]) -> io::Result<()>
     requires { end ≤ 108 }
 {
-    io::write_all(STDOUT_FILENO, &line[..end]);
+    rt.write_all(&line[..end])
 }
 
 // Prints the line of a turn: the record's number, the symbols in so far, the arrived ones and the text.
-fn draw(number: usize, symbols: usize, arrived: usize, reply: Reply, message: [u8; 32]) {
+fn draw(
+    rt: &impl Print,
+    number: usize,
+    symbols: usize,
+    arrived: usize,
+    reply: Reply,
+    message: [u8; 32],
+) -> io::Result<()> {
     let mut line = [0u8; 108];
     let a = text::decimal_then(number, b" ", 0, &mut line);
     let b = text::decimal_then(symbols, b"/", a, &mut line);
     let c = text::decimal_then(arrived, b" ", b, &mut line);
     let end = turn_text(reply, message, c, &mut line);
-    print_first(end, line);
+    print_first(rt, end, line)
 }
 
 fn is_working(reply: Reply) -> bool {
@@ -94,7 +103,7 @@ fn is_working(reply: Reply) -> bool {
 }
 
 // The display's loop: carries a job on until it is finished, and draws after each call.
-fn show(number: usize, arrived: usize, opened: Job) {
+fn show(rt: &impl Print, number: usize, arrived: usize, opened: Job) -> io::Result<()> {
     let mut job = opened;
     let mut message = [0u8; 32];
     let mut symbols = 0;
@@ -103,13 +112,14 @@ fn show(number: usize, arrived: usize, opened: Job) {
         let turn = job.carry_on(BUDGET, &mut message);
         let reply = turn.reply;
         symbols += turn.brought as usize;
-        draw(number, symbols, arrived, reply, message);
+        draw(rt, number, symbols, arrived, reply, message)?;
         if !is_working(reply) {
-            return;
+            return Ok(());
         }
         job = turn.job;
         turns -= 1;
     }
+    Ok(())
 }
 
 // The number of symbols that a record has: 255 stands for a missing one.
@@ -126,48 +136,50 @@ fn arrived_count(record: [u8; 64]) -> usize {
 }
 
 // Prints the line of a record that no job is opened for.
-fn draw_refusal(number: usize, outcome: Outcome) {
+fn draw_refusal(rt: &impl Print, number: usize, outcome: Outcome) -> io::Result<()> {
     let mut line = [0u8; 108];
     let a = text::decimal_then(number, b" ", 0, &mut line);
     let end = no_text(outcome, a, &mut line);
-    print_first(end, line);
+    print_first(rt, end, line)
 }
 
-fn show_record(number: usize, record: [u8; 64]) {
+fn show_record(rt: &impl Print, number: usize, record: [u8; 64]) -> io::Result<()> {
     let opening = job::open(4, 1, 37, &record);
     let outcome = opening.outcome;
     if let Outcome::Done = outcome {
-        show(number, arrived_count(record), opening.job);
+        show(rt, number, arrived_count(record), opening.job)
     } else {
-        draw_refusal(number, outcome);
+        draw_refusal(rt, number, outcome)
     }
 }
 
 // Prints the line of a last part that is no whole record.
-fn draw_short(number: usize, size: usize) {
+fn draw_short(rt: &impl Print, number: usize, size: usize) -> io::Result<()> {
     let mut line = [0u8; 108];
     let a = text::decimal_then(number, b" short ", 0, &mut line);
     let end = text::decimal_then(size, b"\n", a, &mut line);
-    print_first(end, line);
+    print_first(rt, end, line)
 }
 
 // Reads a record and prints its lines. Answers whether more may follow.
-fn print_lines(number: usize) -> bool {
+fn print_lines(rt: &impl Print, from: &mut impl Read, number: usize) -> io::Result<bool> {
     let mut record = [0u8; 64];
-    let n = io::read_full(STDIN_FILENO, &mut record);
+    let n = read_full(from, &mut record)?;
     if n == 64 {
-        show_record(number, record);
-        return true;
+        show_record(rt, number, record)?;
+        return Ok(true);
     }
     if 0 < n {
-        draw_short(number, n);
+        draw_short(rt, number, n)?;
     }
-    false
+    Ok(false)
 }
 
-fn main() {
+fn main(rt: HostRuntime) -> io::Result<()> {
+    let mut from = rt.stdin();
     let mut number = 0;
-    while number < MOST && print_lines(number) {
+    while number < MOST && print_lines(&rt, &mut from, number)? {
         number += 1;
     }
+    Ok(())
 }

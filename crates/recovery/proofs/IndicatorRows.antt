@@ -24,7 +24,7 @@ use Rattle.poly.proofs.Blocks.{block_fits}
 use Rattle.poly.proofs.Parts.{length_part, part_at, put_is, length_put, put_low, put_in, put_high, below_back}
 use Rattle.points.specs.Passing.{passing}
 use Rattle.points.specs.Inner.Columns.{column_y}
-use Rattle.points.proofs.Passing.{place, passing_true, passing_false, place_true, place_bound}
+use Rattle.points.proofs.Passing.{passing_true, passing_false, place_true, place_bound}
 use Rattle.recovery.specs.Inner.Gaps.{point_term, gaps_of, known, heavy, IndicatorRows}
 use Rattle.recovery.specs.Inner.Indicators.{blocks_of}
 

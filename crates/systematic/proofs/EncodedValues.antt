@@ -1,7 +1,7 @@
 -- Values of the definition, one table with one theorem for all rows: at q = 2, m = 2, where a message is a + b·x and each column's two symbols are
 -- the same, the places of the paper's value G, a set that does, and the refusals in their order.
 -- Assumes nothing.
-use mathlib.Core.List.{List, [], ◌∷◌, ◌++◌, map, flat_map}
+use mathlib.Core.List.{List, [], ◌∷◌, map, flat_map}
 use mathlib.Core.Path.{◌≡◌, refl}
 use Prim.Native.Nat.{ℕ}
 use Rattle.field.specs.Plus.{plus}

@@ -26,7 +26,7 @@ use Rattle.points.specs.Series.{columns_of}
 use Rattle.points.specs.Inner.Columns.{Columns}
 use Rattle.points.proofs.Series.{full_columns, length_columns, full_places}
 use Rattle.code.specs.Answers.{Answer, answered}
-use Rattle.code.specs.Recovered.{message, reading}
+use Rattle.code.specs.Recovered.{reading}
 use Rattle.code.specs.Terms.{size}
 use Rattle.code.specs.Unencoded.{unencoded}
 use Rattle.code.specs.Word.{word_of}

@@ -28,7 +28,7 @@ use Rattle.points.specs.Passing.{up_to}
 use Rattle.points.specs.Inner.Columns.{Columns}
 use Rattle.points.proofs.ColumnPoints.{length_up_to}
 use Rattle.points.proofs.Passing.{nodup_passing, of_mem_passing}
-use Rattle.code.specs.Recovered.{Reading, nothing, message, several, reading}
+use Rattle.code.specs.Recovered.{Reading, message, reading}
 use Rattle.code.specs.Terms.{size}
 use Rattle.code.specs.Word.{word_of}
 use Rattle.code.specs.Fitting.{fitting}

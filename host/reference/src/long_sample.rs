@@ -1,6 +1,6 @@
 //! Cases of long blocks (request T-09): encode, unencode and recovery at q = 8 in both
-//! series, the converter (request T-11) and the check (request T-13), with every answer
-//! that they can give.
+//! series and the converter (request T-11); apart from them those of the check (request
+//! T-13). Each with every answer that it can give.
 
 mod refused;
 mod series;
@@ -23,31 +23,25 @@ const CHECKED_ORDERS: [u16; 15] = [
     0, 1, 54, 55, 56, 63, 100, 255, 256, 266, 283, 300, 400, 510, 511,
 ];
 
-/// Those from before request T-13 come first: that they and their lines stay as they were
-/// shows that the older calls give what they gave.
-pub fn long_cases() -> Vec<LongCase> {
-    let mut cases = cases_before_the_check();
-    cases.extend(check_cases());
-    cases
-}
-
-fn check_cases() -> impl Iterator<Item = LongCase> {
+/// Of a program of their own.
+pub fn long_check_cases() -> Vec<LongCase> {
     let curves = Curve::Q_IS_8.in_both_series().into_iter();
     let calls = curves.flat_map(|curve| checks(curve, &CHECKED_ORDERS, SLICE_ROOM));
-    calls.map(|Check { q, series, m, word }| LongCase {
+    let cases = calls.map(|Check { q, series, m, word }| LongCase {
         op: b'v',
         q,
         series,
         m,
         input: word,
         ..LongCase::default()
-    })
+    });
+    cases.collect()
 }
 
 /// Those from before request T-11 come first: that they and their lines stay as they
 /// were shows that series 1 gives what the calls gave before there were two. Then come
 /// the same with series 2, and at last numbers that name no series and the converter.
-fn cases_before_the_check() -> Vec<LongCase> {
+pub fn long_cases() -> Vec<LongCase> {
     let mut cases = cases_of_series(Series::One);
     cases.extend(cases_of_series(Series::Two));
     cases.extend(series::series_cases());
@@ -214,8 +208,15 @@ mod tests {
     fn the_cases_are_reproducible_and_fit_their_records() {
         let cases = long_cases();
         assert_eq!(cases, long_cases());
-        assert!((2900..=3200).contains(&cases.len()), "{}", cases.len());
-        for case in &cases {
+        assert!((2600..=2800).contains(&cases.len()), "{}", cases.len());
+        let check_cases = long_check_cases();
+        assert_eq!(check_cases, long_check_cases());
+        assert!(
+            (300..=400).contains(&check_cases.len()),
+            "{}",
+            check_cases.len()
+        );
+        for case in cases.iter().chain(&check_cases) {
             let record: [u8; RECORD_LENGTH] = case.to_record();
             assert_eq!(&LongCase::from_record(&record), case);
         }
@@ -233,15 +234,14 @@ mod tests {
         assert_eq!(checksum(lines.as_bytes()), 0xEA7D_B704_1CEE_6625);
     }
 
-    /// The cases from before request T-13 and their lines, by number and checksum.
+    /// The cases of request T-11 and before and their lines, by number and checksum.
     #[test]
-    fn the_cases_before_the_check_come_first_and_are_unchanged() {
-        let before = cases_before_the_check();
-        assert_eq!(before.len(), 2_730);
-        assert_eq!(long_cases()[..2_730], before);
-        let records: Vec<u8> = before.iter().flat_map(LongCase::to_record).collect();
+    fn the_cases_with_the_converter_are_unchanged() {
+        let cases = long_cases();
+        assert_eq!(cases.len(), 2_730);
+        let records: Vec<u8> = cases.iter().flat_map(LongCase::to_record).collect();
         assert_eq!(checksum(&records), 0x4531_22F2_8D43_093C);
-        let lines: String = before.iter().map(LongCase::line).collect();
+        let lines: String = cases.iter().map(LongCase::line).collect();
         assert_eq!(checksum(lines.as_bytes()), 0xC190_7549_2359_8D16);
     }
 
@@ -250,7 +250,7 @@ mod tests {
     #[test]
     fn a_yes_of_the_check_is_what_unencoding_accepts() {
         let mut found = BTreeSet::new();
-        for case in check_cases() {
+        for case in long_check_cases() {
             let line = case.line();
             if op_and_number(&line) == ('v', 0) {
                 let unencoding = LongCase {
@@ -281,7 +281,7 @@ mod tests {
     fn every_answer_of_every_op_occurs() {
         let mut answers: BTreeSet<(char, u8)> = BTreeSet::new();
         let mut at_order: BTreeSet<(char, u8, (u8, u16))> = BTreeSet::new();
-        for case in long_cases() {
+        for case in long_cases().into_iter().chain(long_check_cases()) {
             let (op, number) = op_and_number(&case.line());
             answers.insert((op, number));
             if case.q == 8 {

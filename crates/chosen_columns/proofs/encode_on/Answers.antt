@@ -1,7 +1,6 @@
 -- `chosen_columns::encode_on` meets its contract: a refusal by the checks is the call's; past them the word is written.
 -- Assumes nothing.
 use mathlib.Core.Path.{◌≡◌, sym, ap, ◌∙◌}
-use borrow.Author.Rules.{rules}
 use lib.ListN.{length}
 use mathlib.Core.Bool.{false}
 use Rattle.field.specs.declared.outcome.Outcome.TheVariants.{Done}

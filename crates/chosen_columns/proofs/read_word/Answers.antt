@@ -1,12 +1,9 @@
 -- `chosen_columns::read_word` meets its contract: by the grid of the word. Assumes nothing.
-use mathlib.Core.Path.{sym, ◌∙◌}
+use mathlib.Core.Path.{◌∙◌}
 use Prim.Native.Nat.{◌≤◌}
 use native.Mathlib.Omega.{arith}
-use borrow.Author.Rules.{rules}
 use lib.ListN.{length, take}
-use lib.Seq.{length-take-le}
-use Rattle.field.proofs.Curves.{short_sizes, short_not_long}
-use Rattle.code.proofs.Stages.{columns_short, columns_below}
+use Rattle.code.proofs.Stages.{columns_short}
 use Rattle.code.proofs.WordGrids.{front_grid, read_answer}
 use Rattle.chosen_columns.proofs.read_word.Goals as goal
 use Rattle.chosen_columns.proofs.read_word.Goals.{After-interpolate_over-grid, Start}

@@ -4,11 +4,10 @@ use mathlib.Core.List.{List}
 use mathlib.Core.Path.{◌≡◌, sym, ap, ◌∙◌, subst}
 use Prim.Native.Nat.{ℕ, ◌*◌, ◌≤◌}
 use native.Mathlib.Omega.{arith}
-use borrow.Author.Rules.{rules}
 use lib.ListN.{length, take, replicate, length-replicate}
 use Rattle.field.proofs.Curves.{short_sizes}
 use Rattle.field.proofs.Fields.{field_of}
-use Rattle.poly.proofs.Fronts.{take_replicate, front_fits, front_again, again_long}
+use Rattle.poly.proofs.Fronts.{take_replicate, front_again}
 use Rattle.points.specs.Series.{columns_of}
 use Rattle.code.specs.Recovered.{Reading, reading, answer_of}
 use Rattle.code.specs.Terms.{size}
@@ -37,12 +36,11 @@ over_all c =
     wide_over x.q x.columns.now x.m x.word.now c.requires.0 c.widen.new.wide c.widen.ensures
 
 pub known_short_grid-grid-requires : goal.known_short_grid-grid-requires
-known_short_grid-grid-requires c =
-    (
-      subst (BrokenOver c.args.q (columns_of c.args.q 1) 0) (sym (front_again _ c.widen.new.wide _ (wide_long (goal.at.known_short_grid-grid-requires c).After-widen)))
-          (broken_0 _ _ _ _ (over_all (goal.at.known_short_grid-grid-requires c).After-widen)),
-      c.requires.1,
-    )
+known_short_grid-grid-requires c = (
+  subst (BrokenOver c.args.q (columns_of c.args.q 1) 0) (sym (front_again _ c.widen.new.wide _ (wide_long (goal.at.known_short_grid-grid-requires c).After-widen)))
+      (broken_0 _ _ _ _ (over_all (goal.at.known_short_grid-grid-requires c).After-widen)),
+  c.requires.1,
+)
 
 pub recover_over-requires : goal.recover_over-requires
 recover_over-requires c =

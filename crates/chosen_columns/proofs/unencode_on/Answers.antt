@@ -1,7 +1,6 @@
 -- `chosen_columns::unencode_on` meets its contract: a refusal by the checks is the call's; past them the word is read.
 -- Assumes nothing.
 use mathlib.Core.Path.{◌≡◌, sym, ◌∙◌}
-use borrow.Author.Rules.{rules}
 use lib.ListN.{length}
 use mathlib.Core.Bool.{true, false}
 use Rattle.field.specs.declared.outcome.Outcome.TheVariants.{Done}

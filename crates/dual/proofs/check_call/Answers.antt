@@ -4,12 +4,11 @@ use mathlib.Core.Bool.{Bool, true, false}
 use mathlib.Core.Path.{◌≡◌, sym, ap, ◌∙◌}
 use Prim.Native.Nat.{◌-◌, ◌*◌, ◌≤◌, ◌<◌}
 use native.Mathlib.Omega.{arith}
-use borrow.Author.Rules.{rules}
 use lib.ListN.{length}
 use Rattle.field.specs.Curve.{is_curve, IsCurve, curve_of}
 use Rattle.field.specs.declared.curve.Curve.{Curve}
 use Rattle.field.specs.declared.outcome.Outcome.TheVariants.{Done}
-use Rattle.field.proofs.Curves.{sizes, curve_of_true}
+use Rattle.field.proofs.Curves.{curve_of_true}
 use Rattle.field.proofs.Outcomes.{not_done}
 use Rattle.points.specs.Series.{is_series}
 use Rattle.code.specs.Checks.{order_checks, value_check}

@@ -4,8 +4,6 @@ use mathlib.Core.Path.{◌≡◌, sym, subst}
 use Prim.Native.Nat.{ℕ}
 use Rattle.field.proofs.Curves.{long_curve}
 use Rattle.points.specs.Series.{columns_of}
-use Rattle.code.specs.Inner.Readable.{WordOver}
-use Rattle.code.proofs.Stages.{not_long_short}
 use Rattle.dual.specs.Checked.{is_orthogonal}
 use Rattle.dual.proofs.PointSums.{all_columns}
 use Rattle.dual.proofs.Verdicts.{told_orthogonal}

@@ -3,17 +3,15 @@
 use mathlib.Core.Path.{◌≡◌, sym, ap, ◌∙◌, subst}
 use Prim.Native.Nat.{ℕ, ◌+◌, ◌*◌, ◌/◌, ◌%◌, ◌<◌}
 use native.Mathlib.Omega.{arith}
-use borrow.Author.Rules.{rules}
 use lib.ListN.{length, get_or}
 use Rattle.field.proofs.Fields.{field_of}
-use Rattle.field.proofs.Curves.{sizes, short_sizes, short_not_long}
+use Rattle.field.proofs.Curves.{short_not_long}
 use Rattle.poly.specs.Inner.Linear.{entry}
 use Rattle.linear.specs.Inner.Systems.{WellFormed, Equation, Brought}
 use Rattle.points.specs.Points.{ys_of}
 use Rattle.code.specs.Terms.{size}
-use Rattle.code.proofs.Stages.{ys_below}
 use Rattle.code.proofs.GridEntries.{length_entries}
-use Rattle.code.proofs.PlacePoints.{place_column, place_point}
+use Rattle.code.proofs.PlacePoints.{place_point}
 use Rattle.equations.proofs.Equations.{equation_formed, place_brought}
 use Rattle.equations.proofs.bring_place.Goals as goal
 use Rattle.equations.proofs.bring_place.Goals.{After-ys-ys}

@@ -1,15 +1,10 @@
 -- `code::equation::monomials` meets its contract: each turn writes one row, which is x times the one before.
-use mathlib.Core.Path.{◌≡◌, refl, ◌∙◌}
-use Prim.Native.Nat.{◌+◌, ◌-◌, ◌*◌, ◌≤◌}
-use native.Mathlib.Omega.{arith}
-use borrow.Author.Rules.{rules}
-use borrow.Rule.Slice.PartMut.{same_len_mid, mid_len}
+use mathlib.Core.Path.{◌≡◌}
+use Prim.Native.Nat.{◌-◌, ◌*◌}
 use lib.ListN.{length}
-use Rattle.field.proofs.Curves.{short_sizes, short_not_long}
 use Rattle.poly.specs.Inner.Ranges.{Blocks}
-use Rattle.poly.proofs.Blocks.{blocks_none, block_start, block_fits}
 use Rattle.code.specs.Inner.Rows.{term_at}
-use Rattle.equations.proofs.Equations.{RowAt, row_start, row_turn, row_stored}
+use Rattle.equations.proofs.Equations.{RowAt}
 use Rattle.equations.proofs.monomials.Given as goal
 
 abbrev pub invariant-loop-i : goal.invariant-loop-i

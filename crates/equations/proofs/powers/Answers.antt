@@ -1,14 +1,13 @@
 -- `code::equation::powers` meets its contract: each power is x times the one before.
 -- Assumes nothing.
-use mathlib.Core.Path.{◌≡◌, refl, sym, ap, ◌∙◌}
-use Prim.Native.Nat.{◌-◌, ◌≤◌}
+use mathlib.Core.Path.{refl, sym, ap, ◌∙◌}
 use native.Mathlib.Omega.{arith}
-use lib.ListN.{length, length-set}
+use lib.ListN.{length-set}
 use Rattle.field.specs.Power.{power}
 use Rattle.field.proofs.Fields.{field_of}
 use Rattle.field.proofs.Powers.{power_zero, power_next, power_lt}
 use Rattle.poly.specs.Inner.Ranges.{writes}
-use Rattle.poly.proofs.Writes.{writes_turn, writes_end}
+use Rattle.poly.proofs.Writes.{writes_turn}
 use Rattle.equations.proofs.powers.Goals as goal
 
 pub loop-i-init : goal.loop-i-init

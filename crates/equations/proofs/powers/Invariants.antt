@@ -1,13 +1,10 @@
 -- `code::equation::powers` meets its contract: each power is x times the one before.
-use mathlib.Core.Path.{◌≡◌, refl, sym, ap, ◌∙◌}
+use mathlib.Core.Path.{◌≡◌}
 use Prim.Native.Nat.{◌-◌, ◌≤◌}
-use native.Mathlib.Omega.{arith}
-use lib.ListN.{length, length-set}
+use lib.ListN.{length}
 use Rattle.field.specs.Power.{power}
 use Rattle.field.proofs.Fields.{field_of}
-use Rattle.field.proofs.Powers.{power_zero, power_next, power_lt}
 use Rattle.poly.specs.Inner.Ranges.{writes}
-use Rattle.poly.proofs.Writes.{writes_turn, writes_end}
 use Rattle.equations.proofs.powers.Given as goal
 
 abbrev pub invariant-loop-i : goal.invariant-loop-i

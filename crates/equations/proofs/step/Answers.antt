@@ -1,15 +1,12 @@
 -- `code::equation::step` meets its contract: each way out has what bringing in the symbol did.
 -- Assumes nothing.
 use mathlib.Core.Path.{◌≡◌, subst}
-use Prim.Native.Nat.{◌-◌}
-use native.Mathlib.Omega.{arith}
-use borrow.Author.Rules.{rules}
 use Rattle.field.proofs.Fields.{field_of}
 use Rattle.linear.specs.Inner.Systems.{Brought}
 use Rattle.linear.specs.declared.system.Effect.{Effect}
 use Rattle.code.specs.Terms.{size}
 use Rattle.equations.specs.Inner.Collecting.{equation_of}
-use Rattle.equations.proofs.Collecting.{taken_gap, taken_pivot, taken_redundant, clash}
+use Rattle.equations.proofs.Collecting.{taken_pivot, taken_redundant, clash}
 use Rattle.equations.proofs.step.Goals as goal
 use Rattle.equations.proofs.step.Goals.{After-bring_place}
 

@@ -2,17 +2,15 @@
 -- Assumes nothing.
 use mathlib.Core.List.{List}
 use mathlib.Core.Path.{sym, ap, subst}
-use Prim.Native.Nat.{ℕ, ◌+◌, ◌*◌, ◌≤◌}
-use native.Mathlib.Nat.{div-le_self}
+use Prim.Native.Nat.{ℕ, ◌+◌}
 use native.Mathlib.Omega.{arith}
-use borrow.Author.Rules.{rules}
 use lib.ListN.{length, set}
-use Rattle.field.proofs.Curves.{short_sizes, short_curve}
+use Rattle.field.proofs.Curves.{short_sizes}
 use Rattle.poly.specs.Inner.Ranges.{Blocks}
 use Rattle.code.specs.Inner.Rows.{term_at}
 use Rattle.code.proofs.GridEntries.{length_entries}
 use Rattle.equations.specs.Inner.Collecting.{EquationAt}
-use Rattle.equations.proofs.Equations.{rows_room, equation_written, entries_fit}
+use Rattle.equations.proofs.Equations.{equation_written, entries_fit}
 use Rattle.equations.proofs.write_equation.Goals as goal
 
 pub gather_listed-requires : goal.gather_listed-requires

@@ -1,7 +1,6 @@
 -- `job::fresh` meets its contract: the word is copied to the front of missing places.
 -- Assumes nothing.
 use lib.ListN.{replicate}
-use borrow.Author.Rules.{rules}
 use Rattle.job.proofs.Freshness.{made_fresh}
 use Rattle.job.proofs.fresh.Goals as goal
 

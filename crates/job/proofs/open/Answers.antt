@@ -1,6 +1,5 @@
 -- `job::open` meets its contract: the outcome of the checks 1, 17 and 2 to 4 decides which job is handed back.
 -- Assumes nothing.
-use borrow.Author.Rules.{rules}
 use Rattle.field.proofs.Outcomes.{not_done}
 use Rattle.job.proofs.Freshness.{word_short, opens_fresh, opens_blank}
 use Rattle.job.proofs.open.Goals as goal

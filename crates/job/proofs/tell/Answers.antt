@@ -1,7 +1,6 @@
 -- `job::tell` meets its contract: each of its tests is one of the reply's.
 -- Assumes nothing.
 use mathlib.Core.Path.{sym}
-use borrow.Author.Rules.{rules}
 use Rattle.job.proofs.Tellings.{by_none, by_leaves, by_clash, by_several, by_message}
 use Rattle.job.proofs.tell.Goals as goal
 

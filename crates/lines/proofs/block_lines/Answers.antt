@@ -1,11 +1,7 @@
 -- `block_lines` meets its contract. The invariant of its loop: the lines of the first k records are written.
 -- Assumes nothing.
-use mathlib.Core.Path.{◌≡◌, refl, sym, ◌∙◌}
-use Prim.Native.Nat.{◌+◌, ◌-◌, ◌*◌, ◌≤◌, ◌<◌}
+use mathlib.Core.Path.{refl, sym, ◌∙◌}
 use native.Mathlib.Omega.{arith}
-use borrow.Author.Rules.{rules}
-use lib.ListN.{length}
-use Rattle.lines.specs.Text.{joined, Written}
 use Rattle.lines.specs.Line.{numbered_line}
 use Rattle.lines.proofs.Texts.{joined_none, joined_more}
 use Rattle.lines.proofs.Lines.{lines_end}

@@ -1,13 +1,9 @@
 -- `block_lines` meets its contract. The invariant of its loop: the lines of the first k records are written.
-use mathlib.Core.Path.{◌≡◌, refl, sym, ◌∙◌}
+use mathlib.Core.Path.{◌≡◌}
 use Prim.Native.Nat.{◌+◌, ◌-◌, ◌*◌, ◌≤◌, ◌<◌}
-use native.Mathlib.Omega.{arith}
-use borrow.Author.Rules.{rules}
 use lib.ListN.{length}
 use Rattle.lines.specs.Text.{joined, Written}
 use Rattle.lines.specs.Line.{numbered_line}
-use Rattle.lines.proofs.Texts.{joined_none, joined_more}
-use Rattle.lines.proofs.Lines.{lines_end}
 use Rattle.lines.proofs.block_lines.Given as goal
 
 abbrev pub invariant-loop-at : goal.invariant-loop-at

@@ -2,7 +2,6 @@
 -- Assumes nothing.
 use native.Mathlib.Omega.{arith}
 use Rattle.lines.proofs.Lines.{line_short, line_ok, line_no}
-use borrow.Author.Rules.{rules}
 use Rattle.lines.proofs.line.Goals as goal
 
 pub returns-then-size-lt64 : goal.returns-then-size-lt64

@@ -2,7 +2,6 @@
 -- Assumes nothing.
 use mathlib.Core.List.{append_assoc}
 use native.Mathlib.Omega.{arith}
-use borrow.Author.Rules.{rules}
 use Rattle.lines.specs.Line.{no_line}
 use Rattle.lines.proofs.Texts.{next}
 use Rattle.lines.proofs.no_line.Goals as goal

@@ -2,7 +2,6 @@
 -- Assumes nothing.
 use mathlib.Core.List.{append_assoc}
 use native.Mathlib.Omega.{arith}
-use borrow.Author.Rules.{rules}
 use lib.ListN.{length-map}
 use Rattle.lines.specs.Text.{hex_digit}
 use Rattle.lines.specs.Line.{ok_line}

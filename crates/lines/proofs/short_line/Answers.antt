@@ -2,7 +2,6 @@
 -- Assumes nothing.
 use mathlib.Core.List.{append_assoc}
 use native.Mathlib.Omega.{arith}
-use borrow.Author.Rules.{rules}
 use Rattle.lines.specs.Line.{short_line}
 use Rattle.lines.proofs.Texts.{next}
 use Rattle.lines.proofs.short_line.Goals as goal

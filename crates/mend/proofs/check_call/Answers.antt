@@ -4,11 +4,10 @@ use mathlib.Core.Bool.{Bool, true, false}
 use mathlib.Core.Path.{◌≡◌, sym, ap, ◌∙◌}
 use Prim.Native.Nat.{◌-◌, ◌*◌, ◌≤◌, ◌<◌}
 use native.Mathlib.Omega.{arith}
-use borrow.Author.Rules.{rules}
 use Rattle.field.specs.Curve.{is_short, IsShort}
 use Rattle.field.specs.declared.curve.Curve.{Curve}
 use Rattle.field.specs.declared.outcome.Outcome.TheVariants.{Done}
-use Rattle.field.proofs.Curves.{short_curve, short_sizes, short_of_true}
+use Rattle.field.proofs.Curves.{short_curve, short_of_true}
 use Rattle.points.specs.Series.{is_series}
 use Rattle.code.specs.Terms.{size}
 use Rattle.code.specs.Checks.{order_checks, slice_checks}

@@ -1,7 +1,5 @@
 -- `mend::mend` meets its contract: a refusal by the checks is the call's; past them the word is mended.
 -- Assumes nothing.
-use mathlib.Core.Path.{sym, ◌∙◌}
-use borrow.Author.Rules.{rules}
 use Rattle.mend.proofs.Answering.{answered_refused}
 use Rattle.mend.proofs.mend.Goals as goal
 

@@ -3,11 +3,10 @@
 use mathlib.Core.Path.{◌≡◌, refl, sym, ap, ◌∙◌}
 use Prim.Native.Nat.{◌≤◌}
 use native.Mathlib.Omega.{arith}
-use borrow.Author.Rules.{rules}
 use lib.ListN.{length}
 use Rattle.poly.proofs.Entries.{copied}
 use Rattle.poly.proofs.Multiples.{stored_all}
-use Rattle.poly.proofs.Fronts.{lent_long, front_long, array_long, front_fits, front_again, again_long}
+use Rattle.poly.proofs.Fronts.{lent_long, front_long, front_fits, front_again, again_long}
 use Rattle.points.specs.Series.{columns_of}
 use Rattle.code.specs.Word.{word_of}
 use Rattle.mend.specs.Mended.{differing, marks_of}
@@ -73,11 +72,10 @@ copy-requires c =
     (omega arith, omega (arith, c.requires.t_value.1.0.len, (accepted (goal.at.copy-requires c).Start).message_long))
 
 pub copy-requires-2 : goal.copy-requires-2
-copy-requires-2 c =
-    (
-      front_fits _ c.write_word.new.word _ (front_long 64 _ (short (goal.at.copy-requires-2 c).Start) c.write_word.new.word c.write_word.auto.word),
-      omega (arith, (accepted (goal.at.copy-requires-2 c).Start).mendable.long, (accepted (goal.at.copy-requires-2 c).Start).codeword_long),
-    )
+copy-requires-2 c = (
+  front_fits _ c.write_word.new.word _ (front_long 64 _ (short (goal.at.copy-requires-2 c).Start) c.write_word.new.word c.write_word.auto.word),
+  omega (arith, (accepted (goal.at.copy-requires-2 c).Start).mendable.long, (accepted (goal.at.copy-requires-2 c).Start).codeword_long),
+)
 
 pub slice_bounds-near-end-3 : goal.slice_bounds-near-end-3
 slice_bounds-near-end-3 c =
@@ -88,11 +86,10 @@ slice_bounds-mark-end c =
     sym (again_long _ c.write_word.new.word _ (front_long 64 _ (short (goal.at.slice_bounds-mark-end c).Start) c.write_word.new.word c.write_word.auto.word))
 
 pub mark-requires : goal.mark-requires
-mark-requires c =
-    (
-      again_long _ c.write_word.new.word _ (front_long 64 _ (short (goal.at.mark-requires c).Start) c.write_word.new.word c.write_word.auto.word),
-      (accepted (goal.at.mark-requires c).Start).marks_long ∙ sym (accepted (goal.at.mark-requires c).Start).mendable.long,
-    )
+mark-requires c = (
+  again_long _ c.write_word.new.word _ (front_long 64 _ (short (goal.at.mark-requires c).Start) c.write_word.new.word c.write_word.auto.word),
+  (accepted (goal.at.mark-requires c).Start).marks_long ∙ sym (accepted (goal.at.mark-requires c).Start).mendable.long,
+)
 
 pub overflow_cast-result : goal.overflow_cast-result
 overflow_cast-result c =

@@ -6,7 +6,6 @@ use Rattle.field.specs.Inner.Halves.{half_of}
 use Rattle.field.proofs.Fields.{field_of}
 use Rattle.linear.specs.Inner.Eliminating.{Table}
 use Rattle.recovery.proofs.HeavyMarks.{high_long, heavy_masks, heavy_eliminated}
-use borrow.Author.Rules.{rules}
 use Rattle.recovery.proofs.eliminate.Goals as goal
 
 pub eliminate-requires : goal.eliminate-requires

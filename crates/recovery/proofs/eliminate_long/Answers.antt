@@ -4,7 +4,6 @@ use mathlib.Core.Path.{refl}
 use native.Mathlib.Omega.{arith}
 use Rattle.field.proofs.Curves.{long_curve}
 use Rattle.linear.proofs.PivotTables.{zero_table}
-use borrow.Author.Rules.{rules}
 use Rattle.recovery.proofs.eliminate_long.Goals as goal
 
 pub eliminate-requires : goal.eliminate-requires

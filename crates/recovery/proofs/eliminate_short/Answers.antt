@@ -2,14 +2,11 @@
 -- Assumes nothing.
 use mathlib.Core.Path.{sym, subst}
 use Prim.Native.Nat.{ℕ}
-use native.Mathlib.Omega.{arith}
-use Rattle.field.proofs.Curves.{short_curve}
 use Rattle.field.proofs.Fields.{field_of}
 use Rattle.poly.proofs.Entries.{zeros}
 use Rattle.linear.specs.Inner.Combinations.{rows_from, Eliminated}
 use Rattle.linear.specs.Inner.Eliminating.{marked}
 use Rattle.recovery.proofs.HeavyMarks.{high_long, heavy_masks, heavy_eliminated, short_half}
-use borrow.Author.Rules.{rules}
 use Rattle.recovery.proofs.eliminate_short.Goals as goal
 
 pub eliminate_short-requires : goal.eliminate_short-requires

@@ -1,12 +1,10 @@
 -- `recovery::fill` meets its contract. The invariant of its loop: the first p are written.
 -- Assumes nothing.
-use mathlib.Core.Logic.{⊎_elim}
-use mathlib.Core.Path.{◌≡◌, refl, ◌∙◌}
-use Prim.Native.Nat.{◌-◌, ◌≤◌}
+use mathlib.Core.Path.{refl, ◌∙◌}
 use native.Mathlib.Omega.{arith}
-use lib.ListN.{length, length-set}
+use lib.ListN.{length-set}
 use Rattle.poly.specs.Inner.Ranges.{writes}
-use Rattle.poly.proofs.Writes.{writes_turn, writes_end}
+use Rattle.poly.proofs.Writes.{writes_turn}
 use Rattle.recovery.specs.Inner.Gaps.{known}
 use Rattle.recovery.proofs.IndicatorRows.{known_gap, known_symbol}
 use Rattle.recovery.proofs.fill.Goals as goal

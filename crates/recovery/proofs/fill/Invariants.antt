@@ -1,13 +1,9 @@
 -- `recovery::fill` meets its contract. The invariant of its loop: the first p are written.
-use mathlib.Core.Logic.{⊎_elim}
-use mathlib.Core.Path.{◌≡◌, refl, ◌∙◌}
+use mathlib.Core.Path.{◌≡◌}
 use Prim.Native.Nat.{◌-◌, ◌≤◌}
-use native.Mathlib.Omega.{arith}
-use lib.ListN.{length, length-set}
+use lib.ListN.{length}
 use Rattle.poly.specs.Inner.Ranges.{writes}
-use Rattle.poly.proofs.Writes.{writes_turn, writes_end}
 use Rattle.recovery.specs.Inner.Gaps.{known}
-use Rattle.recovery.proofs.IndicatorRows.{known_gap, known_symbol}
 use Rattle.recovery.proofs.fill.Given as goal
 
 abbrev pub invariant-loop-p : goal.invariant-loop-p

@@ -1,7 +1,6 @@
 -- `recovery::known_long_grid` meets its contract: the word with 0 at each gap is interpolated.
 -- Assumes nothing.
 use mathlib.Core.Path.{◌≡◌, sym, ◌∙◌}
-use borrow.Author.Rules.{rules}
 use lib.ListN.{length}
 use Rattle.field.proofs.Curves.{long_curve}
 use Rattle.points.proofs.Series.{full_places}

@@ -4,7 +4,7 @@ use mathlib.Core.List.{List}
 use mathlib.Core.Path.{◌≡◌, sym, ◌∙◌, subst}
 use Prim.Native.Nat.{ℕ, ◌≤◌}
 use lib.ListN.{length}
-use Rattle.poly.proofs.Fronts.{lent_long, front_fits, front_again, again_long}
+use Rattle.poly.proofs.Fronts.{lent_long, front_again}
 use Rattle.points.specs.Series.{columns_of}
 use Rattle.code.specs.Inner.Readable.{WordOver, GridInFront}
 use Rattle.recovery.proofs.KnownGrids.{filled_over, known_grid}

@@ -1,18 +1,10 @@
 -- `recovery::mark` meets its contract. The invariant of its loop: the first e are written.
 -- Assumes nothing.
-use mathlib.Core.Logic.{⊎_elim}
-use mathlib.Core.Path.{◌≡◌, refl, ◌∙◌}
-use Prim.Native.Nat.{◌-◌, ◌*◌, ◌≤◌, ◌<◌}
-use native.Mathlib.Nat.{mod-lt}
+use mathlib.Core.Path.{refl, ◌∙◌}
 use native.Mathlib.Omega.{arith}
-use borrow.Author.Rules.{rules}
-use lib.ListN.{length, length-set}
-use Rattle.field.proofs.Curves.{sizes}
-use Rattle.poly.specs.Lists.{one_if}
+use lib.ListN.{length-set}
 use Rattle.poly.specs.Inner.Ranges.{writes}
-use Rattle.poly.proofs.Writes.{writes_turn, writes_end}
-use Rattle.recovery.specs.Inner.Gaps.{heavy}
-use Rattle.code.proofs.Weights.{curve_pos, small_product}
+use Rattle.poly.proofs.Writes.{writes_turn}
 use Rattle.recovery.proofs.IndicatorRows.{heavy_one, heavy_none}
 use Rattle.recovery.proofs.mark.Goals as goal
 use Rattle.recovery.proofs.mark.Goals.{else-order-weight, then-order-weight}

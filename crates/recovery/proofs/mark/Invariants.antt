@@ -1,18 +1,10 @@
 -- `recovery::mark` meets its contract. The invariant of its loop: the first e are written.
-use mathlib.Core.Logic.{⊎_elim}
-use mathlib.Core.Path.{◌≡◌, refl, ◌∙◌}
-use Prim.Native.Nat.{◌-◌, ◌*◌, ◌≤◌, ◌<◌}
-use native.Mathlib.Nat.{mod-lt}
-use native.Mathlib.Omega.{arith}
-use borrow.Author.Rules.{rules}
-use lib.ListN.{length, length-set}
-use Rattle.field.proofs.Curves.{sizes}
+use mathlib.Core.Path.{◌≡◌}
+use Prim.Native.Nat.{◌-◌, ◌*◌, ◌≤◌}
+use lib.ListN.{length}
 use Rattle.poly.specs.Lists.{one_if}
 use Rattle.poly.specs.Inner.Ranges.{writes}
-use Rattle.poly.proofs.Writes.{writes_turn, writes_end}
 use Rattle.recovery.specs.Inner.Gaps.{heavy}
-use Rattle.code.proofs.Weights.{curve_pos, small_product}
-use Rattle.recovery.proofs.IndicatorRows.{heavy_one, heavy_none}
 use Rattle.recovery.proofs.mark.Given as goal
 
 abbrev pub invariant-loop-e : goal.invariant-loop-e

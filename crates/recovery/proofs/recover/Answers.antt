@@ -3,10 +3,8 @@
 use mathlib.Core.Bool.{Bool, true}
 use mathlib.Core.Path.{◌≡◌, sym, ap, ◌∙◌, subst}
 use Prim.Native.Nat.{ℕ, ◌*◌, ◌<◌}
-use borrow.Author.Rules.{rules}
 use lib.ListN.{length}
 use Rattle.field.specs.Curve.{is_short, IsShort}
-use Rattle.field.specs.declared.curve.Curve.{Curve}
 use Rattle.field.proofs.Curves.{sizes, short_curve, short_of_true}
 use Rattle.field.specs.declared.outcome.Outcome.TheVariants.{Done}
 use Rattle.points.specs.Series.{columns_of}

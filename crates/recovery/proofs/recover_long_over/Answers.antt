@@ -4,19 +4,17 @@ use mathlib.Core.List.{List}
 use mathlib.Core.Path.{◌≡◌, sym, ap, ◌∙◌, subst}
 use Prim.Native.Nat.{ℕ, ◌*◌, ◌≤◌}
 use native.Mathlib.Omega.{arith}
-use lib.ListN.{length, get_or, take}
+use lib.ListN.{length, take}
 use Rattle.field.proofs.Fields.{field_of}
 use Rattle.field.proofs.Curves.{long_curve}
 use Rattle.poly.specs.Inner.Ranges.{Below}
-use Rattle.poly.proofs.Entries.{get_or_zeros}
 use Rattle.points.proofs.Series.{length_columns}
 use Rattle.code.specs.Recovered.{reading, answer_of}
 use Rattle.code.specs.Terms.{size}
 use Rattle.code.specs.Word.{word_of}
 use Rattle.code.specs.Inner.Recovering.{BrokenOver}
 use Rattle.recovery.specs.Inner.Gaps.{KnownGrid}
-use Rattle.recovery.proofs.GapAnswers.{broken_0, count_le, count_fits, lent_long, lent_symbols, rest_answer_lem}
-use borrow.Author.Rules.{rules}
+use Rattle.recovery.proofs.GapAnswers.{count_le, count_fits, lent_long, lent_symbols, rest_answer_lem}
 use Rattle.recovery.proofs.recover_long_over.Goals as goal
 use Rattle.recovery.proofs.recover_long_over.Goals.{After-write_long_indicators-count}
 

@@ -6,11 +6,10 @@ use Prim.Native.Nat.{ℕ, ◌*◌, ◌≤◌}
 use native.Mathlib.Omega.{arith}
 use lib.ListN.{length, take}
 use Rattle.field.proofs.Fields.{field_of}
-use Rattle.field.proofs.Curves.{short_sizes}
 use Rattle.poly.specs.Inner.Ranges.{Below}
 use Rattle.poly.proofs.Entries.{get_or_zeros}
 use Rattle.points.specs.Series.{columns_of}
-use Rattle.points.proofs.AllColumns.{columns_are, columns_fit}
+use Rattle.points.proofs.AllColumns.{columns_are}
 use Rattle.points.proofs.Series.{length_columns}
 use Rattle.code.specs.Recovered.{reading, answer_of}
 use Rattle.code.specs.Terms.{size}
@@ -18,7 +17,6 @@ use Rattle.code.specs.Word.{word_of}
 use Rattle.code.specs.Inner.Recovering.{BrokenOver}
 use Rattle.recovery.specs.Inner.Gaps.{KnownGrid}
 use Rattle.recovery.proofs.GapAnswers.{broken_0, short_places, count_le, count_fits, lent_long, lent_symbols, rest_answer_lem}
-use borrow.Author.Rules.{rules}
 use Rattle.recovery.proofs.recover_over.Goals as goal
 use Rattle.recovery.proofs.recover_over.Goals.{After-columns-columns, After-write_short_indicators-count}
 

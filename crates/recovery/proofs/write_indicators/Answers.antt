@@ -1,14 +1,13 @@
 -- `recovery::write_indicators` meets its contract. The invariant of its loop: the rows of the gaps below p are written.
 -- Assumes nothing.
-use mathlib.Core.Logic.{⊎_elim}
 use mathlib.Core.Path.{◌≡◌, ap, ◌∙◌}
-use Prim.Native.Nat.{ℕ, ◌+◌, ◌-◌, ◌*◌, ◌/◌, ◌%◌, ◌≤◌, ◌<◌}
+use Prim.Native.Nat.{ℕ, ◌+◌, ◌*◌, ◌/◌, ◌%◌, ◌≤◌, ◌<◌}
 use native.Mathlib.Omega.{arith}
 use lib.ListN.{length, get_or}
 use Rattle.field.proofs.Curves.{sizes}
 use Rattle.points.specs.Points.{ys_of}
 use Rattle.code.proofs.PlacePoints.{place_point}
-use Rattle.recovery.proofs.IndicatorRows.{RowsBelow, rows_none, rows_same, row_within, rows_more, rows_all}
+use Rattle.recovery.proofs.IndicatorRows.{rows_none, rows_same, row_within, rows_more}
 use Rattle.recovery.proofs.write_indicators.Goals as goal
 use Rattle.recovery.proofs.write_indicators.Goals.{After-divide-d, In-loop-p, else-word-p, then-word-p}
 
@@ -69,11 +68,14 @@ loop-p-preserved c =
     let k = c.loop-p-test.true in
     let w = row_within a.q a.columns.now a.word.now a.stride a.vectors.now l.vectors l.count l.at l.p l.invariant
     k c.requires.word_in_bounds.0 in
-    elim c.if-word-p.branch [ then-word-p v ↦ rw (v.vectors-is, v.count-is, v.at-is)
-    (rows_more a.q a.columns.now a.word.now a.stride a.vectors.now l.vectors l.count l.at l.p l.invariant k
-    c.requires.word_in_bounds.0 h.0.over.curve h.1 h.2 v.if-word-p.true _ _
-    (ap (λ (t : ℕ). get_or a.columns.now t 0) v.divide-d.ensures.0)
-    (place_point a.q a.columns.now h.0.over l.p _ _ v.divide-d.ensures (omega (arith, k, h.0.long)) a.ys.now c.requires.yfactors.2).2
-    _ (v.write.auto.grid ∙ w.1) v.write.ensures.blocks.0 v.write.ensures.blocks.1 v.write.ensures.by_index) | else-word-p v ↦ rw (v.vectors-is, v.count-is, v.at-is)
-    (rows_same a.q a.columns.now a.word.now a.stride a.vectors.now l.vectors l.count l.at l.p l.invariant k
-    c.requires.word_in_bounds.0 v.if-word-p.false) ]
+    elim c.if-word-p.branch [
+      | then-word-p v ↦ rw (v.vectors-is, v.count-is, v.at-is)
+          (rows_more a.q a.columns.now a.word.now a.stride a.vectors.now l.vectors l.count l.at l.p l.invariant k
+          c.requires.word_in_bounds.0 h.0.over.curve h.1 h.2 v.if-word-p.true _ _
+          (ap (λ (t : ℕ). get_or a.columns.now t 0) v.divide-d.ensures.0)
+          (place_point a.q a.columns.now h.0.over l.p _ _ v.divide-d.ensures (omega (arith, k, h.0.long)) a.ys.now c.requires.yfactors.2).2
+          _ (v.write.auto.grid ∙ w.1) v.write.ensures.blocks.0 v.write.ensures.blocks.1 v.write.ensures.by_index)
+      | else-word-p v ↦ rw (v.vectors-is, v.count-is, v.at-is)
+          (rows_same a.q a.columns.now a.word.now a.stride a.vectors.now l.vectors l.count l.at l.p l.invariant k
+          c.requires.word_in_bounds.0 v.if-word-p.false)
+    ]

@@ -1,10 +1,8 @@
 -- `session::clear_conflicts` meets its contract. The invariant of its loop: the first i have no conflict left.
 -- Assumes nothing.
-use mathlib.Core.Path.{◌≡◌, refl, ap, ◌∙◌}
-use Prim.Native.Nat.{◌≤◌, ◌-◌}
+use mathlib.Core.Path.{refl, ap, ◌∙◌}
 use native.Mathlib.Omega.{arith}
-use borrow.Author.Rules.{rules}
-use lib.ListN.{length, get_or, length-set}
+use lib.ListN.{length-set}
 use Rattle.poly.specs.Inner.Ranges.{writes}
 use Rattle.poly.proofs.Writes.{writes_turn, writes_kept, writes_end, writes_map}
 use Rattle.session.specs.Arrived.{conflict_as_missing}

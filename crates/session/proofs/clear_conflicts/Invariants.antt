@@ -1,11 +1,8 @@
 -- `session::clear_conflicts` meets its contract. The invariant of its loop: the first i have no conflict left.
-use mathlib.Core.Path.{◌≡◌, refl, ap, ◌∙◌}
+use mathlib.Core.Path.{◌≡◌}
 use Prim.Native.Nat.{◌≤◌, ◌-◌}
-use native.Mathlib.Omega.{arith}
-use borrow.Author.Rules.{rules}
-use lib.ListN.{length, get_or, length-set}
+use lib.ListN.{length, get_or}
 use Rattle.poly.specs.Inner.Ranges.{writes}
-use Rattle.poly.proofs.Writes.{writes_turn, writes_kept, writes_end, writes_map}
 use Rattle.session.specs.Arrived.{conflict_as_missing}
 use Rattle.session.proofs.clear_conflicts.Given as goal
 

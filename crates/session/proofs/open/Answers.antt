@@ -2,10 +2,8 @@
 -- Assumes nothing.
 use mathlib.Core.Bool.{Bool}
 use mathlib.Core.Path.{◌≡◌, sym, ap, ◌∙◌}
-use borrow.Author.Rules.{rules}
 use Rattle.field.specs.Curve.{is_short}
 use Rattle.field.specs.declared.outcome.Outcome.TheVariants.{Done}
-use Rattle.field.proofs.Curves.{short_curve, short_of_true}
 use Rattle.field.proofs.Outcomes.{not_done}
 use Rattle.code.specs.Checks.{order_checks}
 use Rattle.session.proofs.Arrivals.{opened_done, opened_refused}

@@ -1,7 +1,5 @@
 -- `systematic::encode_at` meets its contract: a refusal by the checks is the call's; past them the codeword is written, or 16 answered.
 -- Assumes nothing.
-use mathlib.Core.Path.{sym, ◌∙◌}
-use borrow.Author.Rules.{rules}
 use Rattle.systematic.proofs.Encodings.{encoded_refused}
 use Rattle.systematic.proofs.encode_at.Goals as goal
 

@@ -5,7 +5,6 @@ use reference::case_record::{Case, Runner, SLICE_ROOM};
 use reference::chosen_columns_sample::chosen_columns_cases;
 use reference::code::MISSING;
 use reference::curve::{Curve, Series};
-use reference::dual_sample::dual_cases;
 use reference::file_pair;
 use reference::generator::Generator;
 use reference::job_sample::job_cases;
@@ -29,17 +28,10 @@ fn main() -> ExitCode {
     file_pair::write_to_arguments("cases CASE_FILE EXPECTED_FILE", &records, &expected)
 }
 
-/// Those from before request T-13 come first: that they and their lines stay as they
-/// were shows that the older calls give what they gave.
-fn all_cases() -> Vec<Case> {
-    let mut cases = cases_before_the_check();
-    cases.extend(dual_cases());
-    cases
-}
-
 /// Those from before request T-12 come first: that they and their lines stay as they
-/// were shows that the older calls give what they gave.
-fn cases_before_the_check() -> Vec<Case> {
+/// were shows that the older calls give what they gave. Those of request T-13 have a
+/// program of their own, `check_cases`.
+fn all_cases() -> Vec<Case> {
     let mut cases = cases_before_chosen_columns();
     cases.extend(chosen_columns_cases());
     cases
@@ -691,9 +683,9 @@ mod tests {
     }
 
     #[test]
-    fn there_are_about_66000_cases_and_each_fits_its_record() {
+    fn there_are_about_65000_cases_and_each_fits_its_record() {
         let cases = all_cases();
-        assert!((65000..=67000).contains(&cases.len()), "{}", cases.len());
+        assert!((64000..=66000).contains(&cases.len()), "{}", cases.len());
         for case in &cases {
             let record: [u8; RECORD_LENGTH] = case.to_record();
             assert_eq!(&Case::from_record(&record), case);
@@ -756,14 +748,13 @@ mod tests {
         assert_eq!(checksum(lines(&before).as_bytes()), 0x8091_F2AA_CC97_703E);
     }
 
-    /// The cases from before request T-13 and their lines, by number and checksum.
+    /// The cases of request T-12 and before and their lines, by number and checksum.
     #[test]
-    fn the_cases_before_the_check_come_first_and_are_unchanged() {
-        let before = cases_before_the_check();
-        assert_eq!(before.len(), 65_139);
-        assert_eq!(all_cases()[..65_139], before);
-        assert_eq!(checksum(&records(&before)), 0xBC1A_C4A9_F164_9F43);
-        assert_eq!(checksum(lines(&before).as_bytes()), 0x008E_315A_32A7_3976);
+    fn the_cases_with_chosen_columns_are_unchanged() {
+        let cases = all_cases();
+        assert_eq!(cases.len(), 65_139);
+        assert_eq!(checksum(&records(&cases)), 0xBC1A_C4A9_F164_9F43);
+        assert_eq!(checksum(lines(&cases).as_bytes()), 0x008E_315A_32A7_3976);
     }
 
     /// Those of field operations apart. At q = 4 most messages have another word.
@@ -896,7 +887,6 @@ mod tests {
             ("X", vec![0, 1, 2, 3, 4, 5, 18]),
             ("U", vec![0, 1, 2, 3, 4, 5, 9, 18]),
             ("R", vec![0, 1, 2, 3, 4, 5, 9, 10, 18]),
-            ("v", vec![0, 1, 2, 3, 4, 17, 19]),
         ];
         possible
             .into_iter()

@@ -1,9 +1,7 @@
 -- `chosen_columns::columns::are_good` meets its contract: the first i columns ascend below the size.
 use Prim.Native.Nat.{◌-◌}
-use native.Mathlib.Omega.{arith}
 use lib.ListN.{length}
-use Rattle.poly.proofs.Ascending.{FirstAscend, first_none, first_turn, not_ascending, not_below, all_ascend}
-use Rattle.chosen_columns.proofs.ColumnLists.{are_good, none_given, not_good}
+use Rattle.poly.proofs.Ascending.{FirstAscend}
 use Rattle.chosen_columns.proofs.columns.are_good.Given as goal
 
 abbrev pub invariant-loop-i : goal.invariant-loop-i

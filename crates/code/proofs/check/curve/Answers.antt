@@ -1,8 +1,6 @@
 -- `code::check::curve` meets its contract: each way out has the tests that led there.
 -- Assumes nothing.
-use mathlib.Core.Bool.{not}
-use mathlib.Core.Path.{sym, ap, ◌∙◌}
-use borrow.Author.Rules.{rules}
+use mathlib.Core.Path.{sym, ◌∙◌}
 use Rattle.code.specs.Checks.{curve_checks}
 use Rattle.code.proofs.check.curve.Goals as goal
 

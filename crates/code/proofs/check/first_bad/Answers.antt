@@ -1,13 +1,8 @@
 -- `code::check::first_bad` meets its contract: where the highest value is a symbol none is bad; else what is left of the list is searched
 -- as the list is.
 -- Assumes nothing.
-use mathlib.Core.Path.{◌≡◌, sym, ◌∙◌}
-use Prim.Native.Nat.{◌+◌, ◌-◌, ◌≤◌}
-use native.Mathlib.Nat.{zero-add}
+use mathlib.Core.Path.{sym, ◌∙◌}
 use native.Mathlib.Omega.{arith}
-use lib.ListN.{length, drop}
-use borrow.Author.Rules.{rules}
-use Rattle.field.specs.Values.{bad_value, first_bad}
 use Rattle.field.proofs.Values.{bad_found, bad_turn, bad_none}
 use Rattle.code.proofs.Highest.{symbols_good}
 use Rattle.code.proofs.check.first_bad.Goals as goal

@@ -1,7 +1,6 @@
 -- `code::check::slices` meets its contract: each way out has the tests that led there.
 -- Assumes nothing.
 use mathlib.Core.Path.{sym}
-use borrow.Author.Rules.{rules}
 use Rattle.field.proofs.Outcomes.{not_done}
 use Rattle.code.proofs.Checks.{slices_length, slices_value, slices_room, slices_passed}
 use Rattle.code.proofs.check.slices.Goals as goal

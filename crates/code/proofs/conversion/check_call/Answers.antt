@@ -2,12 +2,10 @@
 -- Assumes nothing.
 use mathlib.Core.Bool.{Bool, true}
 use mathlib.Core.Path.{◌≡◌, sym, ap, ◌∙◌}
-use native.Mathlib.Omega.{arith}
-use borrow.Author.Rules.{rules}
 use Rattle.field.specs.Curve.{is_curve}
 use Rattle.field.specs.declared.curve.Curve.{Curve}
 use Rattle.field.specs.declared.outcome.Outcome.TheVariants.{Done}
-use Rattle.field.proofs.Curves.{sizes, curve_of_true}
+use Rattle.field.proofs.Curves.{curve_of_true}
 use Rattle.field.proofs.Outcomes.{row_refused}
 use Rattle.points.specs.Series.{is_series}
 use Rattle.code.specs.Checks.{curve_checks, slice_checks}

@@ -2,7 +2,6 @@
 -- Assumes nothing.
 use mathlib.Core.Path.{◌≡◌, ap, ◌∙◌}
 use native.Mathlib.Omega.{arith}
-use borrow.Author.Rules.{rules}
 use Rattle.field.proofs.Curves.{long_curve}
 use Rattle.points.specs.Series.{other_series, columns_of}
 use Rattle.code.proofs.Moving.{movable, moved_all}

@@ -3,11 +3,10 @@
 use mathlib.Core.Path.{◌≡◌, refl, ap, ◌∙◌}
 use Prim.Native.Nat.{◌*◌}
 use native.Mathlib.Omega.{arith}
-use borrow.Author.Rules.{rules}
 use lib.ListN.{take}
-use Rattle.field.proofs.Curves.{short_curve, short_sizes}
+use Rattle.field.proofs.Curves.{short_curve}
 use Rattle.points.specs.Series.{other_series, columns_of}
-use Rattle.points.proofs.AllColumns.{columns_are, columns_fit, columns_long}
+use Rattle.points.proofs.AllColumns.{columns_are}
 use Rattle.code.proofs.Moving.{movable, moved_all}
 use Rattle.code.proofs.conversion.convert_short.Goals as goal
 use Rattle.code.proofs.conversion.convert_short.Goals.{After-columns-to}

@@ -1,12 +1,10 @@
 -- `code::conversion::move_columns` meets its contract: each turn moves one column.
 -- Assumes nothing.
-use mathlib.Core.Path.{◌≡◌, sym, ◌∙◌, subst}
-use Prim.Native.Nat.{◌+◌, ◌-◌, ◌*◌, ◌≤◌, ◌<◌}
+use Prim.Native.Nat.{◌+◌, ◌*◌, ◌≤◌, ◌<◌}
 use native.Mathlib.Omega.{arith}
-use lib.ListN.{length, get_or, length-take, length-drop}
+use lib.ListN.{length, get_or}
 use Rattle.field.proofs.Curves.{sizes}
-use Rattle.code.specs.Inner.Moving.{Moved}
-use Rattle.code.proofs.Moving.{part_fits, moved_none, moved_more}
+use Rattle.code.proofs.Moving.{part_fits, moved_more}
 use Rattle.code.proofs.conversion.move_columns.Goals as goal
 use Rattle.code.proofs.conversion.move_columns.Goals.{In-loop-t}
 

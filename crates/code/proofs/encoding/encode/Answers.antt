@@ -3,7 +3,6 @@
 use mathlib.Core.Bool.{Bool, false, false≢true}
 use mathlib.Core.Path.{◌≡◌, sym, ap, ◌∙◌, subst}
 use Prim.Native.Nat.{ℕ, ◌*◌, ◌<◌}
-use borrow.Author.Rules.{rules}
 use lib.ListN.{length}
 use Rattle.field.specs.Curve.{IsCurve, IsShort}
 use Rattle.field.specs.declared.outcome.Outcome.TheVariants.{Done}

@@ -1,13 +1,8 @@
 -- `code::encoding::evaluate_message` meets its contract: the message's coefficients are laid out, and their polynomials evaluated.
 -- Assumes nothing.
-use mathlib.Core.Path.{refl, ap, subst}
-use mathlib.Core.List.{List}
-use Prim.Native.Nat.{ℕ, ◌+◌, ◌/◌}
+use mathlib.Core.Path.{ap}
+use Prim.Native.Nat.{ℕ, ◌+◌}
 use native.Mathlib.Omega.{arith}
-use borrow.Author.Rules.{rules}
-use Rattle.field.proofs.Curves.{sizes}
-use Rattle.code.specs.Inner.Grid.{scatter}
-use Rattle.code.specs.Inner.Encodable.{Rowed}
 use Rattle.code.proofs.Stages.{columns_short, grid_rows, short_staged}
 use Rattle.code.proofs.encoding.evaluate_message.Goals as goal
 

@@ -1,22 +1,18 @@
 -- `code::encoding::evaluate_rows` meets its contract: each turn writes the row of one power of y.
 -- Assumes nothing.
-use mathlib.Core.Logic.{⊎_elim}
-use mathlib.Core.Path.{◌≡◌, refl, sym, ap, ◌∙◌, subst}
+use mathlib.Core.Path.{◌≡◌, refl, sym, ◌∙◌, subst}
 use Prim.Native.Nat.{ℕ, ◌+◌, ◌-◌, ◌*◌, ◌≤◌}
 use native.Mathlib.Nat.{mul-le-mul_left}
 use native.Mathlib.Omega.{arith}
-use borrow.Author.Rules.{rules}
-use borrow.Rule.Slice.PartMut.{same_len_mid, mid_len}
+use borrow.Rule.Slice.PartMut.{same_len_mid}
 use lib.ListN.{length, get_or}
 use Rattle.field.proofs.Fields.{field_of}
 use Rattle.poly.specs.Inner.Polynomials.{value}
 use Rattle.poly.specs.Inner.Linear.{entry}
 use Rattle.poly.specs.Inner.Lanes.{lanes}
 use Rattle.poly.specs.Inner.Ranges.{Below}
-use Rattle.poly.proofs.LaneLaws.{length_lanes}
 use Rattle.poly.proofs.Blocks.{block_start, block_fits}
-use Rattle.code.specs.Inner.Encodable.{Rowed}
-use Rattle.code.proofs.Stages.{places_at, places_below, rows_none, rows_turn, rows_all}
+use Rattle.code.proofs.Stages.{places_at, places_below, rows_turn}
 use Rattle.code.proofs.encoding.evaluate_rows.Goals as goal
 use Rattle.code.proofs.encoding.evaluate_rows.Goals.{In-loop-j, Joined-q-eq8, else-q-eq8, then-q-eq8}
 
@@ -35,8 +31,11 @@ row_is c =
     let k = c.terms-k.result in
     let j = c.loop-j.j in
     let places = c.copy.new.dst in
-    elim c.if-q-eq8.branch [ then-q-eq8 v ↦ subst (λ (f : ℕ). c.if-q-eq8.row ≡ lanes (λ t. value (field_of f) k (λ i. get_or x.grid.now (x.q * i + j) 0) (entry places t)))
-    (sym v.if-q-eq8.true) (v.row-is ∙ v.evaluate_long-row.ensures) | else-q-eq8 v ↦ v.row-is ∙ v.evaluate_short-row.ensures ]
+    elim c.if-q-eq8.branch [
+      | then-q-eq8 v ↦ subst (λ (f : ℕ). c.if-q-eq8.row ≡ lanes (λ t. value (field_of f) k (λ i. get_or x.grid.now (x.q * i + j) 0) (entry places t)))
+          (sym v.if-q-eq8.true) (v.row-is ∙ v.evaluate_long-row.ensures)
+      | else-q-eq8 v ↦ v.row-is ∙ v.evaluate_short-row.ensures
+    ]
 
 pub evaluate_long-row-requires : goal.evaluate_long-row-requires
 evaluate_long-row-requires c =

@@ -1,7 +1,6 @@
 -- `code::encoding::write_columns` meets its contract: both stages leave the values of the grid's polynomial.
 -- Assumes nothing.
 use native.Mathlib.Omega.{arith}
-use borrow.Author.Rules.{rules}
 use Rattle.field.proofs.Fields.{field_of}
 use Rattle.field.proofs.FieldLaws.{zero_lt}
 use Rattle.field.proofs.Curves.{sizes}

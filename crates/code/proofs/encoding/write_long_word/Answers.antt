@@ -1,9 +1,8 @@
 -- `code::encoding::write_long_word` meets its contract: the two stages leave the word.
 -- Assumes nothing.
-use mathlib.Core.Path.{refl, sym, ap, ◌∙◌, subst}
+use mathlib.Core.Path.{sym, ap, ◌∙◌, subst}
 use Prim.Native.Nat.{ℕ, ◌+◌, ◌*◌, ◌≤◌}
 use native.Mathlib.Omega.{arith}
-use borrow.Author.Rules.{rules}
 use lib.ListN.{length}
 use Rattle.field.proofs.Curves.{long_curve}
 use Rattle.poly.specs.Inner.Ranges.{Blocks}

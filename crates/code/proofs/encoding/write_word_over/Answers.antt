@@ -3,13 +3,12 @@
 use mathlib.Core.Path.{refl}
 use Prim.Native.Nat.{◌+◌, ◌/◌}
 use native.Mathlib.Omega.{arith}
-use borrow.Author.Rules.{rules}
 use Rattle.field.proofs.Fields.{field_of}
 use Rattle.field.proofs.FieldLaws.{zero_lt}
 use Rattle.field.proofs.Curves.{short_sizes}
 use Rattle.poly.proofs.Entries.{below_zeros}
 use Rattle.code.specs.Inner.Grid.{scatter}
-use Rattle.code.proofs.Stages.{columns_short, columns_below, columns_grid, stages, encodable_word}
+use Rattle.code.proofs.Stages.{columns_short, columns_grid, stages, encodable_word}
 use Rattle.code.proofs.encoding.write_word_over.Goals as goal
 
 pub evaluate_message-requires : goal.evaluate_message-requires

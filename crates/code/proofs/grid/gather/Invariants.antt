@@ -1,14 +1,9 @@
 -- `code::grid::gather` meets its contract: the first n coefficients are gathered.
-use mathlib.Core.Path.{◌≡◌, refl, ap, ◌∙◌}
-use Prim.Native.Nat.{ℕ, ◌-◌, ◌≤◌, ◌<◌}
-use native.Mathlib.Omega.{arith}
-use lib.ListN.{length, get_or, length-set}
+use mathlib.Core.Path.{◌≡◌}
+use Prim.Native.Nat.{◌-◌, ◌≤◌}
+use lib.ListN.{length}
 use Rattle.poly.specs.Inner.Ranges.{writes}
-use Rattle.poly.proofs.Writes.{writes_turn, writes_end}
-use Rattle.code.specs.Terms.{size}
 use Rattle.code.specs.Inner.Grid.{entries_of, listed}
-use Rattle.code.proofs.Weights.{curve_pos}
-use Rattle.code.proofs.GridEntries.{gather_written, entry_at_most}
 use Rattle.code.proofs.grid.gather.Given as goal
 
 abbrev pub invariant-loop-n : goal.invariant-loop-n

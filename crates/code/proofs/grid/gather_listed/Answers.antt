@@ -1,11 +1,9 @@
 -- `code::grid::gather_listed` meets its contract: the coefficients at the first n entries are gathered.
 -- Assumes nothing.
-use mathlib.Core.Path.{◌≡◌, refl, ap, ◌∙◌}
-use Prim.Native.Nat.{◌-◌, ◌≤◌}
+use mathlib.Core.Path.{refl}
 use native.Mathlib.Omega.{arith}
-use lib.ListN.{length}
 use Rattle.poly.specs.Inner.Ranges.{writes}
-use Rattle.poly.proofs.Writes.{length_writes, writes_turn, writes_end}
+use Rattle.poly.proofs.Writes.{writes_turn}
 use Rattle.code.specs.Inner.Grid.{listed}
 use Rattle.code.proofs.grid.gather_listed.Goals as goal
 

@@ -1,10 +1,8 @@
 -- `code::grid::gather_listed` meets its contract: the coefficients at the first n entries are gathered.
-use mathlib.Core.Path.{◌≡◌, refl, ap, ◌∙◌}
+use mathlib.Core.Path.{◌≡◌}
 use Prim.Native.Nat.{◌-◌, ◌≤◌}
-use native.Mathlib.Omega.{arith}
 use lib.ListN.{length}
 use Rattle.poly.specs.Inner.Ranges.{writes}
-use Rattle.poly.proofs.Writes.{length_writes, writes_turn, writes_end}
 use Rattle.code.specs.Inner.Grid.{listed}
 use Rattle.code.proofs.grid.gather_listed.Given as goal
 

@@ -1,20 +1,15 @@
 -- `code::grid::order_at_most` meets its contract: the entries before e are of a weight up to m, or 0.
 -- Assumes nothing.
-use mathlib.Core.Bool.{true}
-use mathlib.Core.Logic.{⊎_elim}
 use mathlib.Core.Path.{◌≡◌, sym, ap, subst}
 use Prim.Native.Nat.{ℕ, ◌+◌, ◌-◌, ◌*◌, ◌≤◌}
 use native.Mathlib.Omega.{arith}
-use borrow.Author.Rules.{rules}
 use lib.ListN.{length}
 use Rattle.field.specs.declared.curve.Curve.{Curve}
 use Rattle.poly.specs.Inner.Ranges.{part}
 use Rattle.poly.proofs.Parts.{length_part}
-use Rattle.code.specs.Inner.Grid.{order_at_most}
 use Rattle.code.specs.Inner.Highest.{Highest}
 use Rattle.code.proofs.Order.{within_zero, within_start, within_less, within_rest, within_turn, within_stop}
-use Rattle.code.proofs.GridEntries.{split_sum}
-use Rattle.code.proofs.Weights.{curve_pos, small_weight}
+use Rattle.code.proofs.Weights.{curve_pos}
 use Rattle.code.proofs.grid.order_at_most.Goals as goal
 use Rattle.code.proofs.grid.order_at_most.Goals.{After-divide-d, else-more-m, then-more-m, then-m-curve+else-grid-e-ne0, else-m-curve}
 
@@ -60,8 +55,8 @@ loop-e-preserved c =
     let l = c.loop-e in
     within_turn c.args.q c.args.m l.e _ _ c.args.grid.now c.divide-d.ensures l.invariant
     (elim c.if-m-curve.branch [
-      then-m-curve+else-grid-e-ne0 v ↦ λ k. v.if-grid-e-ne0.false
-    | else-m-curve v ↦ λ k. absurd (omega (arith, v.if-m-curve.false, in_x (goal.at.loop-e-preserved c).After-divide-d, in_y (goal.at.loop-e-preserved c).After-divide-d))
+      | then-m-curve+else-grid-e-ne0 v ↦ λ k. v.if-grid-e-ne0.false
+      | else-m-curve v ↦ λ k. absurd (omega (arith, v.if-m-curve.false, in_x (goal.at.loop-e-preserved c).After-divide-d, in_y (goal.at.loop-e-preserved c).After-divide-d))
     ])
 
 pub returns : goal.returns

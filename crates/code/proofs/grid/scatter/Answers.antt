@@ -1,14 +1,14 @@
 -- `code::grid::scatter` meets its contract: the first n coefficients are laid out.
 -- Assumes nothing.
-use mathlib.Core.Path.{◌≡◌, refl, sym, ◌∙◌}
-use Prim.Native.Nat.{◌-◌, ◌≤◌, ◌<◌}
+use mathlib.Core.Path.{refl, sym, ◌∙◌}
+use Prim.Native.Nat.{◌<◌}
 use native.Mathlib.Nat.{le_antisymm}
 use native.Mathlib.Omega.{arith}
-use lib.ListN.{length, length-set}
+use lib.ListN.{length-set}
 use Rattle.code.specs.Inner.Grid.{entries_of}
 use Rattle.code.specs.Terms.{size}
 use Rattle.code.proofs.Weights.{curve_pos}
-use Rattle.code.proofs.GridEntries.{laid, laid_none, laid_turn, laid_all, entry_at_most}
+use Rattle.code.proofs.GridEntries.{laid_none, laid_turn, laid_all, entry_at_most}
 use Rattle.code.proofs.grid.scatter.Goals as goal
 use Rattle.code.proofs.grid.scatter.Goals.{In-loop-n}
 

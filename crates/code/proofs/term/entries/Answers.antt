@@ -1,11 +1,11 @@
 -- `code::term::entries` meets its contract: the entries of the first n terms are written.
 -- Assumes nothing.
-use mathlib.Core.Path.{◌≡◌, refl, ap, ◌∙◌}
-use Prim.Native.Nat.{◌-◌, ◌≤◌, ◌<◌}
+use mathlib.Core.Path.{refl}
+use Prim.Native.Nat.{◌<◌}
 use native.Mathlib.Omega.{arith}
-use lib.ListN.{length, get_or}
+use lib.ListN.{get_or}
 use Rattle.poly.specs.Inner.Ranges.{writes}
-use Rattle.poly.proofs.Writes.{length_writes, writes_turn, writes_end}
+use Rattle.poly.proofs.Writes.{writes_turn}
 use Rattle.code.specs.Terms.{size}
 use Rattle.code.specs.Inner.Grid.{entries_of}
 use Rattle.code.proofs.Weights.{curve_pos}

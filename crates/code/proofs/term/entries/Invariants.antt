@@ -1,14 +1,9 @@
 -- `code::term::entries` meets its contract: the entries of the first n terms are written.
-use mathlib.Core.Path.{◌≡◌, refl, ap, ◌∙◌}
-use Prim.Native.Nat.{◌-◌, ◌≤◌, ◌<◌}
-use native.Mathlib.Omega.{arith}
-use lib.ListN.{length, get_or}
+use mathlib.Core.Path.{◌≡◌}
+use Prim.Native.Nat.{◌-◌, ◌≤◌}
+use lib.ListN.{get_or}
 use Rattle.poly.specs.Inner.Ranges.{writes}
-use Rattle.poly.proofs.Writes.{length_writes, writes_turn, writes_end}
-use Rattle.code.specs.Terms.{size}
 use Rattle.code.specs.Inner.Grid.{entries_of}
-use Rattle.code.proofs.Weights.{curve_pos}
-use Rattle.code.proofs.GridEntries.{entry_at_most}
 use Rattle.code.proofs.term.entries.Given as goal
 
 abbrev pub invariant-loop-n : goal.invariant-loop-n

@@ -1,10 +1,8 @@
 -- `code::term::entry` meets its contract: the entry is what the weight says it is.
 -- Assumes nothing.
 use mathlib.Core.Path.{sym, ◌∙◌}
-use native.Mathlib.Omega.{arith}
-use borrow.Author.Rules.{rules}
-use Rattle.code.proofs.Weights.{curve_pos, small_product}
-use Rattle.code.proofs.GridEntries.{entry_le, entry_is, entry_number}
+use Rattle.code.proofs.Weights.{curve_pos}
+use Rattle.code.proofs.GridEntries.{entry_is, entry_number}
 use Rattle.code.proofs.term.entry.Goals as goal
 
 pub returns : goal.returns

@@ -1,12 +1,6 @@
 -- `code::term::low_weight` meets its contract: the rows before the row are full, and hold no more than n terms.
 -- Assumes nothing.
-use mathlib.Core.Path.{◌≡◌, refl}
-use Prim.Native.Nat.{suc, ◌+◌, ◌-◌, ◌*◌, ◌≤◌, ◌<◌}
-use native.Mathlib.Nat.{suc-mul, mul-suc, mul-le-mul_left}
-use native.Mathlib.Numerals.{add-one}
-use native.Mathlib.Omega.{arith}
-use Rattle.field.proofs.Curves.{sizes}
-use Rattle.code.proofs.Weights.{curve_pos, twice_genus, genus_small, row_lt, low_weight}
+use Rattle.code.proofs.Weights.{curve_pos, low_weight}
 use Rattle.code.proofs.term.low_weight.Goals as goal
 
 pub returns : goal.returns

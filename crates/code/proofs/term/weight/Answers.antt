@@ -3,10 +3,9 @@
 use mathlib.Core.Path.{sym, ap, subst}
 use Prim.Native.Nat.{ℕ, ◌+◌}
 use native.Mathlib.Omega.{arith}
-use borrow.Author.Rules.{rules}
 use Rattle.field.specs.declared.curve.Curve.{Curve}
 use Rattle.code.specs.Inner.Grid.{WeightOfTerm}
-use Rattle.code.proofs.Weights.{curve_pos, genus_small, high_weight}
+use Rattle.code.proofs.Weights.{curve_pos, high_weight}
 use Rattle.code.proofs.term.weight.Goals as goal
 
 pub returns-then-curve-n : goal.returns-then-curve-n

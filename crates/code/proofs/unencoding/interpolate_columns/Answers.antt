@@ -1,13 +1,11 @@
 -- `code::unencoding::interpolate_columns` meets its contract: each turn interpolates one column.
 -- Assumes nothing.
-use mathlib.Core.Path.{◌≡◌, refl, sym, ◌∙◌}
-use Prim.Native.Nat.{◌+◌, ◌-◌, ◌*◌, ◌≤◌}
-use native.Mathlib.Nat.{mul-zero}
+use mathlib.Core.Path.{refl, ◌∙◌}
+use Prim.Native.Nat.{◌+◌, ◌-◌}
 use native.Mathlib.Omega.{arith}
 use borrow.Rule.Slice.PartMut.{same_len_mid}
-use lib.ListN.{length, get_or}
-use Rattle.poly.proofs.Blocks.{block_start, block_fits}
-use Rattle.code.proofs.ColumnInterpolation.{InterpolatedSoFar, so_far_none, so_far_all, lanes_fit, column_given, so_far_turn}
+use Rattle.poly.proofs.Blocks.{block_start}
+use Rattle.code.proofs.ColumnInterpolation.{column_given, so_far_turn}
 use Rattle.code.proofs.unencoding.interpolate_columns.Goals as goal
 
 pub interpolate-requires : goal.interpolate-requires

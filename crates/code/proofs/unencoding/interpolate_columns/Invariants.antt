@@ -1,12 +1,8 @@
 -- `code::unencoding::interpolate_columns` meets its contract: each turn interpolates one column.
-use mathlib.Core.Path.{◌≡◌, refl, sym, ◌∙◌}
-use Prim.Native.Nat.{◌+◌, ◌-◌, ◌*◌, ◌≤◌}
-use native.Mathlib.Nat.{mul-zero}
-use native.Mathlib.Omega.{arith}
-use borrow.Rule.Slice.PartMut.{same_len_mid}
-use lib.ListN.{length, get_or}
-use Rattle.poly.proofs.Blocks.{block_start, block_fits}
-use Rattle.code.proofs.ColumnInterpolation.{InterpolatedSoFar, so_far_none, so_far_all, lanes_fit, column_given, so_far_turn}
+use mathlib.Core.Path.{◌≡◌}
+use Prim.Native.Nat.{◌-◌, ◌*◌}
+use lib.ListN.{length}
+use Rattle.code.proofs.ColumnInterpolation.{InterpolatedSoFar}
 use Rattle.code.proofs.unencoding.interpolate_columns.Given as goal
 
 abbrev pub invariant-loop-t : goal.invariant-loop-t

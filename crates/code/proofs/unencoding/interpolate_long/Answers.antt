@@ -4,16 +4,12 @@ use mathlib.Core.List.{List}
 use mathlib.Core.Path.{◌≡◌, sym, ap, ◌∙◌, subst}
 use Prim.Native.Nat.{ℕ}
 use native.Mathlib.Omega.{arith}
-use borrow.Author.Rules.{rules}
 use lib.ListN.{length, length-replicate}
 use Rattle.field.proofs.Curves.{long_curve}
-use Rattle.field.proofs.Fields.{field_of}
-use Rattle.poly.specs.Inner.Interpolation.{VanishingTree}
 use Rattle.poly.proofs.Entries.{get_or_zeros}
 use Rattle.points.proofs.Series.{length_columns}
 use Rattle.code.specs.Inner.Readable.{WordOver, GridInFront}
-use Rattle.code.proofs.Stages.{short_narrow}
-use Rattle.code.proofs.WordGrids.{joinable, grid_of, grid_copied}
+use Rattle.code.proofs.WordGrids.{grid_of, grid_copied}
 use Rattle.code.proofs.unencoding.interpolate_long.Goals as goal
 use Rattle.code.proofs.unencoding.interpolate_long.Goals.{After-long_columns-columns}
 

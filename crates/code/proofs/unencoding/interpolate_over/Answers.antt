@@ -1,17 +1,15 @@
 -- `code::unencoding::interpolate_over` meets its contract: both stages leave the grid of the word.
 -- Assumes nothing.
-use mathlib.Core.List.{List, ◌++◌}
+use mathlib.Core.List.{List}
 use mathlib.Core.Path.{◌≡◌, sym, ◌∙◌, subst}
 use Prim.Native.Nat.{ℕ, ◌*◌, ◌≤◌}
 use native.Mathlib.Omega.{arith}
-use borrow.Author.Rules.{rules}
-use lib.ListN.{length, drop, length-replicate}
-use lib.Seq.{length_front}
+use lib.ListN.{length, length-replicate}
 use Rattle.field.proofs.Curves.{short_sizes}
 use Rattle.field.proofs.Fields.{field_of}
 use Rattle.poly.specs.Inner.Interpolation.{Joinable, Interpolated}
 use Rattle.poly.proofs.Entries.{zeros, get_or_zeros, take_zeros}
-use Rattle.poly.proofs.Fronts.{lent_long, front_fits, front_again, again_long, part_is, part_fits}
+use Rattle.poly.proofs.Fronts.{lent_long, front_again, again_long, part_is}
 use Rattle.code.specs.Inner.Readable.{GridOf}
 use Rattle.code.proofs.Stages.{columns_short, short_narrow}
 use Rattle.code.proofs.WordGrids.{word_fits, joinable, grid_of, grid_copied}

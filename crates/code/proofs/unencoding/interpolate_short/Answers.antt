@@ -5,15 +5,14 @@ use mathlib.Core.Logic.{⊎_elim}
 use mathlib.Core.Path.{◌≡◌, refl, sym, ap, ◌∙◌, subst}
 use Prim.Native.Nat.{ℕ, ◌*◌}
 use native.Mathlib.Omega.{arith}
-use borrow.Author.Rules.{rules}
 use lib.ListN.{length, take}
-use Rattle.field.proofs.Curves.{sizes, short_curve, short_sizes}
+use Rattle.field.proofs.Curves.{sizes, short_curve}
 use Rattle.field.proofs.Fields.{field_of}
 use Rattle.poly.specs.Inner.Interpolation.{VanishingTree}
 use Rattle.points.specs.Series.{columns_of}
-use Rattle.points.proofs.AllColumns.{columns_are, columns_fit}
+use Rattle.points.proofs.AllColumns.{columns_are}
 use Rattle.points.proofs.Series.{first_columns, second_columns, small_columns, length_columns}
-use Rattle.code.specs.Inner.Readable.{WordOver, GridInFront}
+use Rattle.code.specs.Inner.Readable.{WordOver}
 use Rattle.code.proofs.unencoding.interpolate_short.Goals as goal
 use Rattle.code.proofs.unencoding.interpolate_short.Goals.{After-columns-columns, Joined-q-eq2, then-q-eq2, else-q-eq2+then-series-eq2, else-q-eq2+else-series-eq2}
 
@@ -22,9 +21,9 @@ grown : (c : goal.Joined-q-eq2) → let x = c.args in VanishingTree (field_of x.
 grown c =
     let larger : (c.args.q ≡ 2 → ⊥) → c.args.q ≡ 4 = λ n. ⊎_elim (λ e. absurd (n e)) (λ e. e) c.requires.1 in
     elim c.if-q-eq2.branch [
-      then-q-eq2 w ↦ rw w.tree-is (rw (w.if-q-eq2.true, small_columns c.args.series) w.tree_2-tree.ensures)
-    | else-q-eq2+then-series-eq2 w ↦ rw w.tree-is (rw (larger w.if-q-eq2.false, second_columns 4 c.args.series w.if-series-eq2.true) w.tree_4_by_powers-tree.ensures)
-    | else-q-eq2+else-series-eq2 w ↦ rw w.tree-is (rw (larger w.if-q-eq2.false, first_columns 4 c.args.series w.if-series-eq2.false) c.tree_4-tree.ensures)
+      | then-q-eq2 w ↦ rw w.tree-is (rw (w.if-q-eq2.true, small_columns c.args.series) w.tree_2-tree.ensures)
+      | else-q-eq2+then-series-eq2 w ↦ rw w.tree-is (rw (larger w.if-q-eq2.false, second_columns 4 c.args.series w.if-series-eq2.true) w.tree_4_by_powers-tree.ensures)
+      | else-q-eq2+else-series-eq2 w ↦ rw w.tree-is (rw (larger w.if-q-eq2.false, first_columns 4 c.args.series w.if-series-eq2.false) c.tree_4-tree.ensures)
     ]
 
 -- the columns that are lent

@@ -1,6 +1,5 @@
 -- `code::unencoding::read_long_word` meets its contract: by the grid of the word. Assumes nothing.
 use mathlib.Core.Path.{sym, ◌∙◌}
-use borrow.Author.Rules.{rules}
 use Rattle.field.proofs.Curves.{long_curve}
 use Rattle.points.specs.Series.{columns_of}
 use Rattle.points.proofs.Series.{full_places}

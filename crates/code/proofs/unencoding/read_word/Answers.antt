@@ -1,10 +1,8 @@
 -- `code::unencoding::read_word` meets its contract: by the grid of the word. Assumes nothing.
-use mathlib.Core.Path.{sym, ◌∙◌}
+use mathlib.Core.Path.{◌∙◌}
 use Prim.Native.Nat.{◌≤◌}
 use native.Mathlib.Omega.{arith}
-use borrow.Author.Rules.{rules}
 use lib.ListN.{length, take}
-use lib.Seq.{length-take-le}
 use Rattle.points.specs.Series.{columns_of}
 use Rattle.code.proofs.Stages.{columns_short}
 use Rattle.code.proofs.WordGrids.{front_grid, read_answer}

@@ -1,17 +1,13 @@
 -- `dual::term_sums::add_powers` meets its contract: each turn adds the lanes to one row and multiplies them by their places.
 -- Assumes nothing.
-use mathlib.Core.Path.{◌≡◌, refl, sym, ap, ◌∙◌, subst}
-use Prim.Native.Nat.{ℕ, ◌+◌, ◌-◌, ◌*◌, ◌≤◌}
+use mathlib.Core.Path.{refl}
+use Prim.Native.Nat.{◌+◌, ◌≤◌}
 use native.Mathlib.Omega.{arith}
-use borrow.Rule.Slice.PartMut.{mid_len}
-use lib.ListN.{length, get_or}
-use Rattle.field.specs.Plus.{plus}
+use lib.ListN.{length}
 use Rattle.field.proofs.Fields.{field_of}
-use Rattle.poly.specs.Inner.Ranges.{Blocks}
 use Rattle.poly.proofs.Blocks.{block_start, block_fits}
-use Rattle.poly.proofs.LaneLaws.{length_lanes}
-use Rattle.poly.proofs.LanePowers.{raised, raised_below}
-use Rattle.dual.proofs.StagedSums.{Adding, adding_none, adding_turn}
+use Rattle.poly.proofs.LanePowers.{raised_below}
+use Rattle.dual.proofs.StagedSums.{adding_none, adding_turn}
 use Rattle.dual.proofs.term_sums.add_powers.Goals as goal
 use Rattle.dual.proofs.term_sums.add_powers.Goals.{In-loop-j}
 

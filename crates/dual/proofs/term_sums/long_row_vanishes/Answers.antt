@@ -1,14 +1,13 @@
 -- `dual::term_sums::long_row_vanishes` meets its contract: each turn tests one power of x, and multiplies by x.
 -- Assumes nothing.
 use mathlib.Core.Path.{◌≡◌, refl}
-use Prim.Native.Nat.{◌+◌, ◌-◌, ◌*◌, ◌<◌}
+use Prim.Native.Nat.{◌+◌, ◌*◌}
 use native.Mathlib.Omega.{arith}
-use borrow.Author.Rules.{rules}
 use Rattle.field.proofs.Fields.{field_of}
 use Rattle.poly.specs.Inner.Ranges.{Below}
 use Rattle.dual.specs.Inner.StagedSums.{sum_by_power_of_x, long_entry}
-use Rattle.dual.proofs.RowTests.{RowTested, row_none, row_more, row_fails, row_last, row_passed}
-use Rattle.dual.proofs.LongSums.{Quarters, quarter_none, quarter_more, quarter_below, quarters_sum}
+use Rattle.dual.proofs.RowTests.{row_none, row_more, row_fails, row_last}
+use Rattle.dual.proofs.LongSums.{quarter_none, quarter_more, quarter_below, quarters_sum}
 use Rattle.dual.proofs.term_sums.long_row_vanishes.Goals as goal
 use Rattle.dual.proofs.term_sums.long_row_vanishes.Goals.{After-sum_of_four, At-loop-w}
 

@@ -1,13 +1,8 @@
 -- `dual::term_sums::long_row_vanishes` meets its contract: each turn tests one power of x, and multiplies by x.
-use mathlib.Core.Path.{◌≡◌, refl}
-use Prim.Native.Nat.{◌+◌, ◌-◌, ◌*◌, ◌<◌}
-use native.Mathlib.Omega.{arith}
-use borrow.Author.Rules.{rules}
-use Rattle.field.proofs.Fields.{field_of}
-use Rattle.poly.specs.Inner.Ranges.{Below}
+use Prim.Native.Nat.{◌-◌, ◌<◌}
 use Rattle.dual.specs.Inner.StagedSums.{sum_by_power_of_x, long_entry}
-use Rattle.dual.proofs.RowTests.{RowTested, row_none, row_more, row_fails, row_last, row_passed}
-use Rattle.dual.proofs.LongSums.{Quarters, quarter_none, quarter_more, quarter_below, quarters_sum}
+use Rattle.dual.proofs.RowTests.{RowTested}
+use Rattle.dual.proofs.LongSums.{Quarters}
 use Rattle.dual.proofs.term_sums.long_row_vanishes.Given as goal
 
 abbrev pub invariant-loop-w : goal.invariant-loop-w

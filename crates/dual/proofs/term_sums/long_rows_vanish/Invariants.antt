@@ -1,10 +1,8 @@
 -- `dual::term_sums::long_rows_vanish` meets its contract: each turn tests one power of y.
 use mathlib.Core.List.{List}
 use Prim.Native.Nat.{ℕ, ◌-◌, ◌≤◌}
-use native.Mathlib.Omega.{arith}
-use borrow.Author.Tests.{not-true, not-false}
 use Rattle.dual.specs.Inner.StagedSums.{sum_by_power_of_x, long_entry}
-use Rattle.dual.proofs.RowTests.{RowsBelow, rows_none, rows_more, rows_failed, rows_all}
+use Rattle.dual.proofs.RowTests.{RowsBelow}
 use Rattle.dual.proofs.term_sums.long_rows_vanish.Given as goal
 
 -- the sum against x^i·y^j

@@ -2,18 +2,17 @@
 -- Assumes nothing.
 use mathlib.Core.List.{List}
 use mathlib.Core.Path.{◌≡◌, refl, ◌∙◌}
-use Prim.Native.Nat.{ℕ, ◌+◌, ◌-◌, ◌*◌, ◌≤◌, ◌<◌}
+use Prim.Native.Nat.{ℕ, ◌+◌, ◌*◌, ◌≤◌, ◌<◌}
 use native.Mathlib.Nat.{suc-mul, mul-le-mul_right}
 use native.Mathlib.Omega.{arith}
-use borrow.Author.Rules.{rules}
 use Rattle.field.specs.Curve.{IsShort}
 use Rattle.field.specs.Sum.{sum}
 use Rattle.field.proofs.Fields.{field_of}
-use Rattle.field.proofs.Curves.{sizes, short_sizes, short_curve, short_not_long}
+use Rattle.field.proofs.Curves.{short_sizes, short_not_long}
 use Rattle.poly.specs.Inner.Linear.{entry}
 use Rattle.poly.proofs.LaneLaws.{is_lanes}
 use Rattle.poly.proofs.LanePowers.{raised, raised_lanes, raised_none, raised_more, raised_below, raised_sum}
-use Rattle.dual.proofs.RowTests.{RowTested, row_none, row_more, row_fails, row_last, row_passed}
+use Rattle.dual.proofs.RowTests.{RowTested, row_none, row_more, row_fails, row_last}
 use Rattle.dual.proofs.term_sums.row_vanishes.Goals as goal
 
 -- the lanes are those of the power i, for which the weight is w

@@ -1,13 +1,12 @@
 -- `dual::term_sums::sum_in_y` meets its contract: each turn adds one symbol of every column, times its y to each power.
 -- Assumes nothing.
-use mathlib.Core.Path.{◌≡◌, refl, sym, ap, ◌∙◌, subst}
-use Prim.Native.Nat.{ℕ, ◌+◌, ◌-◌, ◌*◌, ◌≤◌}
+use mathlib.Core.Path.{refl, sym, ap, ◌∙◌, subst}
+use Prim.Native.Nat.{◌+◌, ◌*◌}
 use native.Mathlib.Omega.{arith}
 use lib.ListN.{length}
 use Rattle.field.proofs.Fields.{field_of}
 use Rattle.poly.specs.Inner.Ranges.{Below}
 use Rattle.poly.proofs.LaneLaws.{length_lanes, lanes_below}
-use Rattle.dual.specs.Inner.StagedSums.{SummedInY}
 use Rattle.dual.proofs.StagedSums.{summed_none, summed_turn}
 use Rattle.dual.proofs.term_sums.sum_in_y.Goals as goal
 

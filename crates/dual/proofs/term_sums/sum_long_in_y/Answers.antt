@@ -1,12 +1,11 @@
 -- `dual::term_sums::sum_long_in_y` meets its contract: each turn sums those of sixteen columns.
 -- Assumes nothing.
-use mathlib.Core.Path.{◌≡◌, refl, ◌∙◌}
-use Prim.Native.Nat.{◌+◌, ◌-◌, ◌*◌, ◌%◌, ◌≤◌}
+use mathlib.Core.Path.{◌≡◌, ◌∙◌}
+use Prim.Native.Nat.{◌+◌, ◌-◌, ◌*◌, ◌≤◌}
 use native.Mathlib.Omega.{arith}
-use borrow.Author.Rules.{rules}
 use borrow.Rule.Slice.PartMut.{same_len_mid}
 use lib.ListN.{length}
-use Rattle.dual.proofs.LongSums.{LongSummed, long_none, group_staged, group_word, group_room, group_zeros, long_more}
+use Rattle.dual.proofs.LongSums.{group_room, long_more}
 use Rattle.dual.proofs.term_sums.sum_long_in_y.Goals as goal
 use Rattle.dual.proofs.term_sums.sum_long_in_y.Goals.{In-loop-from}
 

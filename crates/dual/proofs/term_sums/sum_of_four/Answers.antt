@@ -3,7 +3,6 @@
 use mathlib.Core.Path.{◌∙◌, ap₂}
 use Rattle.field.specs.Plus.{plus}
 use Rattle.dual.proofs.LongSums.{sum_lanes_plus}
-use borrow.Author.Rules.{rules}
 use Rattle.dual.proofs.term_sums.sum_of_four.Goals as goal
 
 pub returns : goal.returns

@@ -1,13 +1,11 @@
 -- `dual::term_sums::take_symbols` meets its contract. The invariant of its loop: the first t lanes are written.
 -- Assumes nothing.
 use mathlib.Core.Path.{◌≡◌, refl, ap, ◌∙◌}
-use Prim.Native.Nat.{ℕ, ◌+◌, ◌-◌, ◌*◌, ◌≤◌, ◌<◌}
-use native.Mathlib.Nat.{mul-le-mul_left, mul-le-mul_right}
+use Prim.Native.Nat.{ℕ, ◌+◌, ◌*◌}
+use native.Mathlib.Nat.{mul-le-mul_left}
 use native.Mathlib.Omega.{arith}
-use lib.ListN.{length, get_or, replicate, length-set, get_or-eq_default}
-use Rattle.field.proofs.Curves.{sizes}
+use lib.ListN.{get_or, replicate, length-set, get_or-eq_default}
 use Rattle.poly.specs.Inner.Ranges.{writes}
-use Rattle.poly.proofs.Blocks.{block_fits}
 use Rattle.poly.proofs.Writes.{writes_turn}
 use Rattle.dual.proofs.StagedSums.{stores_lanes}
 use Rattle.dual.proofs.term_sums.take_symbols.Goals as goal

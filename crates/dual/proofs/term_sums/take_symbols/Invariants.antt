@@ -1,14 +1,8 @@
 -- `dual::term_sums::take_symbols` meets its contract. The invariant of its loop: the first t lanes are written.
-use mathlib.Core.Path.{◌≡◌, refl, ap, ◌∙◌}
-use Prim.Native.Nat.{ℕ, ◌+◌, ◌-◌, ◌*◌, ◌≤◌, ◌<◌}
-use native.Mathlib.Nat.{mul-le-mul_left, mul-le-mul_right}
-use native.Mathlib.Omega.{arith}
-use lib.ListN.{length, get_or, replicate, length-set, get_or-eq_default}
-use Rattle.field.proofs.Curves.{sizes}
+use mathlib.Core.Path.{◌≡◌}
+use Prim.Native.Nat.{◌+◌, ◌-◌, ◌*◌, ◌≤◌}
+use lib.ListN.{length, get_or, replicate}
 use Rattle.poly.specs.Inner.Ranges.{writes}
-use Rattle.poly.proofs.Blocks.{block_fits}
-use Rattle.poly.proofs.Writes.{writes_turn}
-use Rattle.dual.proofs.StagedSums.{stores_lanes}
 use Rattle.dual.proofs.term_sums.take_symbols.Given as goal
 
 abbrev pub invariant-loop-t : goal.invariant-loop-t

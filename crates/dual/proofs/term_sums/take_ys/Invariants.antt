@@ -1,13 +1,8 @@
 -- `dual::term_sums::take_ys` meets its contract. The invariant of its loop: the first t lanes are written.
-use mathlib.Core.Path.{◌≡◌, refl, ap, ◌∙◌}
-use Prim.Native.Nat.{ℕ, ◌+◌, ◌-◌, ◌*◌, ◌≤◌, ◌<◌}
-use native.Mathlib.Omega.{arith}
-use lib.ListN.{length, get_or, replicate, length-set}
-use Rattle.field.proofs.Curves.{sizes}
+use mathlib.Core.Path.{◌≡◌}
+use Prim.Native.Nat.{◌+◌, ◌-◌, ◌*◌, ◌≤◌}
+use lib.ListN.{length, get_or, replicate}
 use Rattle.poly.specs.Inner.Ranges.{writes}
-use Rattle.poly.proofs.Writes.{writes_turn}
-use Rattle.points.proofs.YsTables.{table_fits}
-use Rattle.dual.proofs.StagedSums.{taken_ys}
 use Rattle.dual.proofs.term_sums.take_ys.Given as goal
 
 abbrev pub invariant-loop-t : goal.invariant-loop-t

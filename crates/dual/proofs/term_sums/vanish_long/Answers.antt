@@ -8,9 +8,7 @@ use Rattle.field.proofs.Curves.{long_curve}
 use Rattle.poly.proofs.Entries.{get_or_zeros}
 use Rattle.points.proofs.Series.{length_columns}
 use Rattle.code.specs.Inner.Readable.{WordOver}
-use Rattle.code.proofs.Stages.{columns_below}
 use Rattle.dual.proofs.LongSums.{long_tells}
-use borrow.Author.Rules.{rules}
 use Rattle.dual.proofs.term_sums.vanish_long.Goals as goal
 use Rattle.dual.proofs.term_sums.vanish_long.Goals.{After-long_columns-columns}
 
@@ -23,9 +21,9 @@ all c = ap length c.long_columns-columns.ensures ∙ length_columns 8 c.args.ser
 
 pub sum_long_in_y-requires : goal.sum_long_in_y-requires
 sum_long_in_y-requires c = record {
-      word_over = (over (goal.at.sum_long_in_y-requires c).After-long_columns-columns, all (goal.at.sum_long_in_y-requires c).After-long_columns-columns);
-      rows_len = (length-replicate {A = ℕ} 512 0, get_or_zeros 512);
-    }
+  word_over = (over (goal.at.sum_long_in_y-requires c).After-long_columns-columns, all (goal.at.sum_long_in_y-requires c).After-long_columns-columns);
+  rows_len = (length-replicate {A = ℕ} 512 0, get_or_zeros 512);
+}
 
 pub returns : goal.returns
 returns c =

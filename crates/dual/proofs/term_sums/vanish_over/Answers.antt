@@ -1,7 +1,6 @@
 -- `dual::term_sums::vanish_over` meets its contract: the sums over sixteen lanes are those over the columns.
 -- Assumes nothing.
 use native.Mathlib.Omega.{arith}
-use borrow.Author.Rules.{rules}
 use Rattle.field.proofs.Curves.{short_sizes}
 use Rattle.poly.proofs.Entries.{get_or_zeros}
 use Rattle.dual.proofs.StagedSums.{word_staged, lanes_staged, sums_same}

@@ -10,13 +10,12 @@ use borrow.Author.Rules.{rules}
 use lib.ListN.{length}
 use lib.Seq.{length-take-le}
 use Rattle.field.specs.declared.curve.Curve.{Curve}
-use Rattle.code.specs.Terms.{size}
 use Rattle.job.specs.declared.Job.{Job}
 use Rattle.job.specs.Task.{stored_word, task_of}
 use Rattle.job.specs.Inner.Bringing.{Tested}
 use Rattle.job.proofs.Openings.{open_curve}
 use Rattle.job.proofs.Calls.{carried_room}
-use Rattle.job.proofs.Carrying.{Given, Left, sound_tested, places_fit, candidate_fits, whole_fits, asked, short, next_fits, rows_fit, candidate_again, copy_fits, copies, sound_after, gives_message, gives_other, writes_message}
+use Rattle.job.proofs.Carrying.{Given, Left, sound_tested, places_fit, candidate_fits, whole_fits, asked, short, next_fits, rows_fit, copy_fits, copies, sound_after, gives_message, gives_other, writes_message}
 use Rattle.job.proofs.Tellings.{not_refused}
 use Rattle.job.proofs.Job.carry_on.Goals as goal
 use Rattle.job.proofs.Job.carry_on.Goals.{Start, Then-usable, After-at-curve, After-bring-r}
@@ -157,7 +156,7 @@ returns-then-is_message c =
     ∙ copies (job a) (k a) (n a) (given a) (budget b) (work b) (candidate b) (whole b) b.bring-r.result (left b) slice room in
     record {
       written_only_with_message =
-      writes_message (job a) (k a) (n a) (given a) (budget b) (work b) (candidate b) (whole b) b.bring-r.result (left b) said.result slice out
+          writes_message (job a) (k a) (n a) (given a) (budget b) (work b) (candidate b) (whole b) b.bring-r.result (left b) said.result slice out
           said.ensures d copied;
       job_value = λ f. absurd (not_refused (k a) (n a) b.bring-r.result (sym said.ensures ∙ f));
       sound = λ h. (

@@ -4,7 +4,6 @@ use mathlib.Core.Bool.{Bool, true, false}
 use mathlib.Core.Path.{◌≡◌, sym, ◌∙◌, subst}
 use Prim.Native.Nat.{◌≤◌}
 use native.Mathlib.Omega.{arith}
-use borrow.Author.Rules.{rules}
 use Rattle.field.proofs.Curves.{short_curve}
 use Rattle.field.proofs.Fields.{field_of}
 use Rattle.poly.specs.Inner.Linear.{entry}
@@ -13,10 +12,9 @@ use Rattle.linear.proofs.Solutions.{rank_le, rank_full, solves_vector}
 use Rattle.points.specs.Series.{columns_of}
 use Rattle.points.proofs.Series.{full_places}
 use Rattle.code.specs.Terms.{size}
-use Rattle.code.proofs.FullColumns.{size_short}
 use Rattle.job.specs.Inner.Bringing.{Collects, Compared}
 use Rattle.job.proofs.Advancing.{counted_on}
-use Rattle.job.proofs.Standings.{stands_none, stands_only, stands_collected, usable_message, usable_formed, only_solution, brings_clash, brings_only, brings_fewer}
+use Rattle.job.proofs.Standings.{stands_only, stands_collected, usable_message, only_solution, brings_clash, brings_only}
 use Rattle.job.proofs.bringing.bring.Goals as goal
 use Rattle.job.proofs.bringing.bring.Goals.{After-collect-r}
 

@@ -1,9 +1,9 @@
 -- `job::bringing::bring_equations` meets its contract: the symbols below p are counted and collected.
 -- Assumes nothing.
-use mathlib.Core.Bool.{Bool, true, false}
-use mathlib.Core.Logic.{inl, inr, ⊎_elim}
-use mathlib.Core.Path.{◌≡◌, refl, ap, ◌∙◌, subst}
-use Prim.Native.Nat.{◌+◌, ◌-◌}
+use mathlib.Core.Bool.{Bool, true}
+use mathlib.Core.Logic.{⊎_elim}
+use mathlib.Core.Path.{◌≡◌, ap, ◌∙◌, subst}
+use Prim.Native.Nat.{◌+◌}
 use native.Mathlib.Omega.{arith}
 use lib.ListN.{length, get_or}
 use Rattle.field.proofs.Curves.{short_sizes}
@@ -11,11 +11,9 @@ use Rattle.field.proofs.Fields.{field_of}
 use Rattle.linear.proofs.Solutions.{rank_le}
 use Rattle.linear.specs.Inner.Systems.{flat}
 use Rattle.code.specs.Terms.{size}
-use Rattle.code.proofs.GridEntries.{length_entries}
 use Rattle.equations.specs.Inner.Collecting.{Advanced}
 use native.Mathlib.Nat.{mul-le-mul_left}
-use Rattle.job.specs.Inner.Bringing.{Counted, Collecting}
-use Rattle.job.proofs.Advancing.{counted_none, counted_gap, counted_symbol, collecting_none, collecting_gap, collecting_step, collects_clash}
+use Rattle.job.proofs.Advancing.{counted_gap, counted_symbol, collecting_gap, collecting_step, collects_clash}
 use Rattle.job.proofs.bringing.bring_equations.Goals as goal
 use Rattle.job.proofs.bringing.bring_equations.Goals.{After-step-r, then-s+else-brought-budget+else-rank-k+else-r, else-s}
 
@@ -68,7 +66,7 @@ loop-p-preserved c =
     let l = c.loop-p in
     let within = c.loop-p-test.true in
     elim c.if-s.branch [
-      then-s+else-brought-budget+else-rank-k+else-r v ↦ (
+      | then-s+else-brought-budget+else-rank-k+else-r v ↦ (
         ap length v.work-is ∙ v.step-r.auto.work ∙ l.invariant.0,
         rw v.brought-is
             (counted_symbol x.word.now x.budget x.next 0 l.p l.brought l.invariant.1 within v.if-s.true v.if-brought-budget.false),
@@ -78,7 +76,7 @@ loop-p-preserved c =
             (subst (λ (t : Bool). Advanced x.q x.columns.now x.m l.p (get_or x.word.now l.p 0) l.rank l.work
             v.step-r.new.work t v.step-r.result.rank) v.if-r.false v.step-r.ensures)),
       )
-    | else-s v ↦ (
+      | else-s v ↦ (
         ap length v.work-is ∙ l.invariant.0,
         rw v.brought-is (counted_gap x.word.now x.budget x.next 0 l.p l.brought l.invariant.1 within v.if-s.false),
         rw (v.work-is, v.rank-is)

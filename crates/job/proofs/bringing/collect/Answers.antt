@@ -4,17 +4,14 @@ use mathlib.Core.List.{List}
 use mathlib.Core.Path.{◌≡◌, sym, ap, subst}
 use Prim.Native.Nat.{ℕ}
 use native.Mathlib.Omega.{arith}
-use borrow.Author.Rules.{rules}
 use lib.ListN.{take, replicate}
-use lib.Seq.{length-take-le}
 use Rattle.field.specs.declared.curve.Curve.{Curve}
 use Rattle.linear.specs.Inner.Systems.{flat, rank}
 use Rattle.points.specs.Series.{columns_of}
-use Rattle.points.proofs.AllColumns.{columns_are, columns_fit, columns_long}
+use Rattle.points.proofs.AllColumns.{columns_are}
 use Rattle.code.specs.Terms.{size}
 use Rattle.code.specs.Inner.Recovering.{BrokenOver}
 use Rattle.code.proofs.GridEntries.{entries_taken}
-use Rattle.code.proofs.Stages.{columns_short}
 use Rattle.job.specs.Inner.Bringing.{Collects}
 use Rattle.job.proofs.bringing.collect.Goals as goal
 use Rattle.job.proofs.bringing.collect.Goals.{After-rank-rows}

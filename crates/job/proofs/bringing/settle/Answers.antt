@@ -3,10 +3,9 @@
 use mathlib.Core.Path.{sym, ◌∙◌, subst}
 use Prim.Native.Nat.{ℕ}
 use native.Mathlib.Omega.{arith}
-use borrow.Author.Rules.{rules}
-use Rattle.field.proofs.Curves.{short_curve, short_not_long}
+use Rattle.field.proofs.Curves.{short_curve}
 use Rattle.field.proofs.Fields.{field_of}
-use Rattle.linear.specs.Inner.Systems.{flat, WellFormed, Solution, Solves}
+use Rattle.linear.specs.Inner.Systems.{flat, Solution, Solves}
 use Rattle.linear.proofs.Substitution.{solves_full}
 use Rattle.points.proofs.Series.{length_columns, full_columns, full_places}
 use Rattle.code.specs.Terms.{size}
@@ -43,6 +42,6 @@ write_word-requires c =
 
 pub returns : goal.returns
 returns c = record {
-      solves = solution (goal.at.returns c).After-solve;
-      whole_after = c.write_word.ensures;
-    }
+  solves = solution (goal.at.returns c).After-solve;
+  whole_after = c.write_word.ensures;
+}

@@ -1,13 +1,10 @@
 -- `job::testing::is_formed` meets its contract: nothing is asked after a clash, symbols of a message, and else a well-formed system.
 -- Assumes nothing.
-use mathlib.Core.Path.{sym}
 use Prim.Native.Nat.{◌≤◌}
 use native.Mathlib.Omega.{arith}
-use borrow.Author.Rules.{rules}
-use lib.ListN.{length, take}
-use lib.Seq.{length-take-le}
-use Rattle.field.proofs.Curves.{short_sizes, short_curve}
-use Rattle.job.proofs.Usability.{usable_clash, usable_complete, usable_system}
+use lib.ListN.{length}
+use Rattle.field.proofs.Curves.{short_curve}
+use Rattle.job.proofs.Usability.{usable_complete, usable_system}
 use Rattle.job.proofs.testing.is_formed.Goals as goal
 use Rattle.job.proofs.testing.is_formed.Goals.{Start}
 

@@ -2,14 +2,12 @@
 -- Assumes nothing.
 use mathlib.Core.Bool.{Bool}
 use mathlib.Core.Path.{◌≡◌, sym, ap, ◌∙◌}
-use borrow.Author.Rules.{rules}
 use Rattle.field.specs.Curve.{is_short}
 use Rattle.field.specs.declared.outcome.Outcome.TheVariants.{Done}
 use Rattle.field.proofs.Curves.{short_curve, short_of_true}
 use Rattle.code.specs.Checks.{order_checks}
 use Rattle.code.proofs.Checks.{order_done}
 use Rattle.code.proofs.Answers.{order_refused}
-use Rattle.job.proofs.Usability.{opening_asked}
 use Rattle.job.proofs.testing.opening.Goals as goal
 use Rattle.job.proofs.testing.opening.Goals.{After-order-first}
 

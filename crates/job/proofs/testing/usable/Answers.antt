@@ -1,18 +1,11 @@
 -- `job::testing::usable` meets its contract: each of its tests is one of those that are asked.
 -- Assumes nothing.
-use mathlib.Core.Path.{◌≡◌, sym, ap, ◌∙◌}
-use Prim.Native.Nat.{◌*◌, ◌≤◌}
+use mathlib.Core.Path.{sym, ◌∙◌}
 use native.Mathlib.Omega.{arith}
-use borrow.Author.Rules.{rules}
-use borrow.Author.Tests.{not-true, not-false}
-use lib.ListN.{length}
-use lib.Seq.{length-take-le}
 use Rattle.field.specs.Curve.{IsShort}
-use Rattle.field.specs.declared.curve.Curve.{Curve}
-use Rattle.field.proofs.Curves.{short_curve, short_sizes, short_of_true}
-use Rattle.field.proofs.Outcomes.{not_done}
+use Rattle.field.proofs.Curves.{short_of_true}
 use Rattle.job.proofs.Openings.{open_short}
-use Rattle.job.proofs.Usability.{tested_curve, tested_refused, tested_beyond, tested_all}
+use Rattle.job.proofs.Usability.{tested_curve}
 use Rattle.job.proofs.testing.usable.Goals as goal
 use Rattle.job.proofs.testing.usable.Goals.{After-at-curve}
 

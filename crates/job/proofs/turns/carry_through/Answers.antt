@@ -1,10 +1,7 @@
 -- `job::turns::carry_through` meets its contract: each call keeps what `Carries` says.
 -- Assumes nothing.
-use Prim.Native.Nat.{◌-◌, ◌≤◌}
 use native.Mathlib.Omega.{arith}
-use lib.ListN.{length}
 use Rattle.job.specs.Task.{stored_word}
-use Rattle.job.specs.Inner.Turns.{Carries}
 use Rattle.job.proofs.Turning.{carries_none, carries_more}
 use Rattle.job.proofs.turns.carry_through.Goals as goal
 

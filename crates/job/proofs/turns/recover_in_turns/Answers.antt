@@ -6,7 +6,6 @@ use Rattle.field.proofs.Outcomes.{not_done}
 use Rattle.code.specs.Answers.{answered}
 use Rattle.job.specs.Task.{stored_word, task_of}
 use Rattle.job.proofs.Turning.{carries_all, budget_enough, of_arguments, refused_opening}
-use borrow.Author.Rules.{rules}
 use Rattle.job.proofs.turns.recover_in_turns.Goals as goal
 
 pub returns-in-Done : goal.returns-in-Done

@@ -3,8 +3,6 @@
 use mathlib.Core.Path.{sym, ◌∙◌}
 use Prim.Native.Nat.{◌*◌}
 use native.Mathlib.Omega.{arith}
-use borrow.Author.Rules.{rules}
-use Rattle.field.proofs.Curves.{short_sizes}
 use Rattle.job.proofs.Formed.{formed_not, formed_rows}
 use Rattle.job.proofs.work.formed.Goals as goal
 

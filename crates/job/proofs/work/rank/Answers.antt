@@ -1,10 +1,7 @@
 -- `job::work::rank` meets its contract: n of the rows before p are there.
 -- Assumes nothing.
-use mathlib.Core.Path.{◌≡◌, sym, ap, ◌∙◌}
-use mathlib.Core.Logic.{⊎_elim}
-use Prim.Native.Nat.{ℕ, ◌-◌, ◌≤◌}
+use mathlib.Core.Path.{sym, ◌∙◌}
 use native.Mathlib.Omega.{arith}
-use Rattle.linear.specs.Inner.Systems.{flat, rank}
 use Rattle.job.proofs.Formed.{rank_none, rank_there, rank_absent}
 use Rattle.job.proofs.work.rank.Goals as goal
 use Rattle.job.proofs.work.rank.Goals.{else-work-at-eq1, then-work-at-eq1}

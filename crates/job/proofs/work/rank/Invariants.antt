@@ -1,10 +1,7 @@
 -- `job::work::rank` meets its contract: n of the rows before p are there.
-use mathlib.Core.Path.{◌≡◌, sym, ap, ◌∙◌}
-use mathlib.Core.Logic.{⊎_elim}
-use Prim.Native.Nat.{ℕ, ◌-◌, ◌≤◌}
-use native.Mathlib.Omega.{arith}
+use mathlib.Core.Path.{◌≡◌}
+use Prim.Native.Nat.{◌-◌, ◌≤◌}
 use Rattle.linear.specs.Inner.Systems.{flat, rank}
-use Rattle.job.proofs.Formed.{rank_none, rank_there, rank_absent}
 use Rattle.job.proofs.work.rank.Given as goal
 
 abbrev pub invariant-loop-p : goal.invariant-loop-p

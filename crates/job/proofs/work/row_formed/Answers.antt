@@ -1,10 +1,7 @@
 -- `job::work::row_formed` meets its contract: the row's own entry is 1, and those after it and before j are 0.
 -- Assumes nothing.
-use mathlib.Core.Path.{◌≡◌, sym}
-use Prim.Native.Nat.{ℕ, ◌+◌, ◌-◌, ◌≤◌, ◌<◌}
+use mathlib.Core.Path.{sym}
 use native.Mathlib.Omega.{arith}
-use native.Mathlib.Decide.{ℕ_discrete}
-use Rattle.poly.specs.Inner.Linear.{entry}
 use Rattle.job.proofs.Formed.{row_large, row_absent, row_not, row_all}
 use Rattle.job.proofs.work.row_formed.Goals as goal
 

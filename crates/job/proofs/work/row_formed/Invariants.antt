@@ -1,10 +1,7 @@
 -- `job::work::row_formed` meets its contract: the row's own entry is 1, and those after it and before j are 0.
-use mathlib.Core.Path.{◌≡◌, sym}
+use mathlib.Core.Path.{◌≡◌}
 use Prim.Native.Nat.{ℕ, ◌+◌, ◌-◌, ◌≤◌, ◌<◌}
-use native.Mathlib.Omega.{arith}
-use native.Mathlib.Decide.{ℕ_discrete}
 use Rattle.poly.specs.Inner.Linear.{entry}
-use Rattle.job.proofs.Formed.{row_large, row_absent, row_not, row_all}
 use Rattle.job.proofs.work.row_formed.Given as goal
 
 abbrev pub invariant-loop-j : goal.invariant-loop-j

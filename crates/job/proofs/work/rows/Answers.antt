@@ -1,13 +1,7 @@
 -- `job::work::rows` meets its contract: the rows before p are formed.
 -- Assumes nothing.
-use mathlib.Core.Bool.{true}
-use mathlib.Core.Path.{◌≡◌, sym, ◌∙◌}
-use Prim.Native.Nat.{ℕ, ◌-◌, ◌≤◌, ◌<◌}
+use mathlib.Core.Path.{sym, ◌∙◌}
 use native.Mathlib.Omega.{arith}
-use borrow.Author.Count.{below_more}
-use borrow.Author.Tests.{not-true, not-false}
-use borrow.Author.Rules.{rules}
-use Rattle.job.specs.Inner.Formed.{row_formed}
 use Rattle.job.proofs.Formed.{rows_not, rows_all}
 use Rattle.job.proofs.work.rows.Goals as goal
 

@@ -1,7 +1,6 @@
 -- `page::character` meets its contract.
 -- Assumes nothing.
 use mathlib.Core.Path.{sym, ◌∙◌}
-use borrow.Author.Rules.{rules}
 use Rattle.lines.proofs.Pages.{character_symbol, character_missing, character_bad}
 use Rattle.lines.proofs.page.character.Goals as goal
 

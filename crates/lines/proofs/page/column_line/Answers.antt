@@ -2,7 +2,6 @@
 -- Assumes nothing.
 use mathlib.Core.Path.{sym}
 use native.Mathlib.Omega.{arith}
-use borrow.Author.Rules.{rules}
 use Rattle.lines.specs.Page.{column_line}
 use Rattle.lines.proofs.Texts.{next}
 use Rattle.lines.proofs.page.column_line.Goals as goal

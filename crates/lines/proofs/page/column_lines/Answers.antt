@@ -1,12 +1,7 @@
 -- `page::column_lines` meets its contract. The invariant of its loop: the lines of the first x columns are written.
 -- Assumes nothing.
-use mathlib.Core.Logic.{inr}
-use mathlib.Core.Path.{◌≡◌, refl, sym, ◌∙◌}
-use Prim.Native.Nat.{◌+◌, ◌-◌, ◌*◌, ◌≤◌}
+use mathlib.Core.Path.{refl, ◌∙◌}
 use native.Mathlib.Omega.{arith}
-use borrow.Author.Rules.{rules}
-use lib.ListN.{length}
-use Rattle.lines.specs.Text.{joined, Written}
 use Rattle.lines.specs.Page.{column_line}
 use Rattle.lines.proofs.Texts.{joined_none, joined_more}
 use Rattle.lines.proofs.page.column_lines.Goals as goal

@@ -1,13 +1,9 @@
 -- `page::column_lines` meets its contract. The invariant of its loop: the lines of the first x columns are written.
-use mathlib.Core.Logic.{inr}
-use mathlib.Core.Path.{◌≡◌, refl, sym, ◌∙◌}
+use mathlib.Core.Path.{◌≡◌}
 use Prim.Native.Nat.{◌+◌, ◌-◌, ◌*◌, ◌≤◌}
-use native.Mathlib.Omega.{arith}
-use borrow.Author.Rules.{rules}
 use lib.ListN.{length}
 use Rattle.lines.specs.Text.{joined, Written}
 use Rattle.lines.specs.Page.{column_line}
-use Rattle.lines.proofs.Texts.{joined_none, joined_more}
 use Rattle.lines.proofs.page.column_lines.Given as goal
 
 abbrev pub invariant-loop-x : goal.invariant-loop-x

@@ -1,10 +1,6 @@
 -- `page::last_line` meets its contract: the spaces are as many as the line lacks.
 -- Assumes nothing.
-use mathlib.Core.Path.{sym}
-use native.Mathlib.Omega.{arith}
-use lib.Seq.{length-take-le}
-use borrow.Author.Rules.{rules}
-use Rattle.lines.proofs.Pages.{length_spaces, last_line_whole}
+use Rattle.lines.proofs.Pages.{last_line_whole}
 use Rattle.lines.proofs.page.last_line.Goals as goal
 
 pub returns : goal.returns

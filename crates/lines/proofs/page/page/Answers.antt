@@ -2,7 +2,6 @@
 -- Assumes nothing.
 use mathlib.Core.Path.{sym}
 use native.Mathlib.Omega.{arith}
-use borrow.Author.Rules.{rules}
 use Rattle.lines.proofs.Texts.{next}
 use Rattle.lines.proofs.Pages.{page_whole}
 use Rattle.lines.proofs.page.page.Goals as goal

@@ -1,13 +1,12 @@
 -- `page::pages` meets its contract. The invariant of its loop: the pages of the first k records are written.
 -- Assumes nothing.
 use mathlib.Core.Path.{◌≡◌, refl, sym, ◌∙◌}
-use Prim.Native.Nat.{◌-◌, ◌*◌, ◌/◌, ◌≤◌}
+use Prim.Native.Nat.{◌/◌}
 use native.Mathlib.Omega.{arith}
 use lib.ListN.{length}
-use Rattle.lines.specs.Text.{joined, Written}
 use Rattle.lines.specs.Page.{record_page, pages_of}
 use Rattle.lines.proofs.Texts.{joined_none, joined_more}
-use Rattle.lines.proofs.Pages.{record_part_lem, length_record}
+use Rattle.lines.proofs.Pages.{record_part_lem}
 use Rattle.lines.proofs.page.pages.Goals as goal
 
 pub loop-k-init : goal.loop-k-init

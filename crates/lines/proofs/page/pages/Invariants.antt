@@ -1,12 +1,9 @@
 -- `page::pages` meets its contract. The invariant of its loop: the pages of the first k records are written.
-use mathlib.Core.Path.{◌≡◌, refl, sym, ◌∙◌}
+use mathlib.Core.Path.{◌≡◌}
 use Prim.Native.Nat.{◌-◌, ◌*◌, ◌/◌, ◌≤◌}
-use native.Mathlib.Omega.{arith}
 use lib.ListN.{length}
 use Rattle.lines.specs.Text.{joined, Written}
-use Rattle.lines.specs.Page.{record_page, pages_of}
-use Rattle.lines.proofs.Texts.{joined_none, joined_more}
-use Rattle.lines.proofs.Pages.{record_part_lem, length_record}
+use Rattle.lines.specs.Page.{record_page}
 use Rattle.lines.proofs.page.pages.Given as goal
 
 abbrev pub invariant-loop-k : goal.invariant-loop-k

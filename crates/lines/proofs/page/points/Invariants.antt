@@ -1,13 +1,9 @@
 -- `page::points` meets its contract. The invariant of its loop: the first s points are written.
-use mathlib.Core.Path.{◌≡◌, refl, sym, ◌∙◌}
+use mathlib.Core.Path.{◌≡◌}
 use Prim.Native.Nat.{◌+◌, ◌-◌, ◌*◌, ◌≤◌}
-use native.Mathlib.Omega.{arith}
-use borrow.Author.Rules.{rules}
 use lib.ListN.{length}
 use Rattle.lines.specs.Text.{joined, Written}
 use Rattle.lines.specs.Page.{point_text}
-use Rattle.lines.proofs.Texts.{joined_none, joined_more}
-use Rattle.lines.proofs.Pages.{point_at}
 use Rattle.lines.proofs.page.points.Given as goal
 
 abbrev pub invariant-loop-s : goal.invariant-loop-s

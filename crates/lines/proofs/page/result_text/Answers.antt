@@ -1,7 +1,6 @@
 -- `page::result_text` meets its contract.
 -- Assumes nothing.
 use native.Mathlib.Omega.{arith}
-use borrow.Author.Rules.{rules}
 use Rattle.lines.proofs.Pages.{result_ok, result_none, result_several, result_bad}
 use Rattle.lines.proofs.page.result_text.Goals as goal
 

@@ -1,7 +1,6 @@
 -- `page::several` meets its contract: a number of 16 bits takes five digits at the most.
 -- Assumes nothing.
 use native.Mathlib.Omega.{arith}
-use borrow.Author.Rules.{rules}
 use Rattle.lines.specs.Page.{several_text}
 use Rattle.lines.proofs.Texts.{next}
 use Rattle.lines.proofs.Decimals.{length_16_bits}

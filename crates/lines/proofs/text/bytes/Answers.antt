@@ -1,10 +1,7 @@
 -- `text::bytes` meets its contract.
 -- Assumes nothing.
-use mathlib.Core.Path.{◌≡◌, refl, sym}
-use Prim.Native.Nat.{◌+◌, ◌-◌, ◌≤◌}
 use native.Mathlib.Omega.{arith}
-use lib.ListN.{length, take, length-set}
-use lib.Seq.{sets, take_all}
+use lib.ListN.{length-set}
 use Rattle.lines.proofs.Texts.{text_turn}
 use Rattle.lines.proofs.text.bytes.Goals as goal
 

@@ -1,10 +1,8 @@
 -- `text::bytes` meets its contract.
-use mathlib.Core.Path.{◌≡◌, refl, sym}
+use mathlib.Core.Path.{◌≡◌}
 use Prim.Native.Nat.{◌+◌, ◌-◌, ◌≤◌}
-use native.Mathlib.Omega.{arith}
-use lib.ListN.{length, take, length-set}
-use lib.Seq.{sets, take_all}
-use Rattle.lines.proofs.Texts.{text_turn}
+use lib.ListN.{length, take}
+use lib.Seq.{sets}
 use Rattle.lines.proofs.text.bytes.Given as goal
 
 abbrev pub invariant-loop-j : goal.invariant-loop-j

@@ -1,7 +1,6 @@
 -- `text::decimal_then` meets its contract.
 -- Assumes nothing.
 use native.Mathlib.Omega.{arith}
-use borrow.Author.Rules.{rules}
 use Rattle.lines.proofs.Texts.{next}
 use Rattle.lines.proofs.Decimals.{length_decimal}
 use Rattle.lines.proofs.text.decimal_then.Goals as goal

@@ -1,11 +1,7 @@
 -- `text::digits` meets its contract.
 -- Assumes nothing.
-use mathlib.Core.Path.{◌≡◌, refl, sym}
-use mathlib.Core.List.{map}
-use Prim.Native.Nat.{◌+◌, ◌-◌, ◌≤◌}
 use native.Mathlib.Omega.{arith}
-use lib.ListN.{length, take, length-set, length-map}
-use lib.Seq.{sets, take_all}
+use lib.ListN.{length-set}
 use Rattle.lines.specs.Text.{hex_digit}
 use Rattle.lines.proofs.Texts.{map_turn}
 use Rattle.lines.proofs.text.digits.Goals as goal

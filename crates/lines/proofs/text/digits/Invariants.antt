@@ -1,12 +1,10 @@
 -- `text::digits` meets its contract.
-use mathlib.Core.Path.{◌≡◌, refl, sym}
+use mathlib.Core.Path.{◌≡◌}
 use mathlib.Core.List.{map}
 use Prim.Native.Nat.{◌+◌, ◌-◌, ◌≤◌}
-use native.Mathlib.Omega.{arith}
-use lib.ListN.{length, take, length-set, length-map}
-use lib.Seq.{sets, take_all}
+use lib.ListN.{length, take}
+use lib.Seq.{sets}
 use Rattle.lines.specs.Text.{hex_digit}
-use Rattle.lines.proofs.Texts.{map_turn}
 use Rattle.lines.proofs.text.digits.Given as goal
 
 abbrev pub invariant-loop-j : goal.invariant-loop-j

@@ -1,12 +1,10 @@
 -- `mend::candidate::erase` meets its contract. The invariant of its loop: the first p are written.
 -- Assumes nothing.
-use mathlib.Core.Logic.{⊎_elim}
-use mathlib.Core.Path.{◌≡◌, refl}
-use Prim.Native.Nat.{◌≤◌, ◌-◌}
+use mathlib.Core.Path.{refl}
 use native.Mathlib.Omega.{arith}
-use lib.ListN.{length, length-set}
+use lib.ListN.{length-set}
 use Rattle.poly.specs.Inner.Ranges.{writes}
-use Rattle.poly.proofs.Writes.{writes_turn, writes_kept, writes_end}
+use Rattle.poly.proofs.Writes.{writes_turn, writes_kept}
 use Rattle.mend.specs.Inner.Locating.{erased_at}
 use Rattle.mend.proofs.Erasing.{erase_zero, erase_other}
 use Rattle.mend.proofs.candidate.erase.Goals as goal

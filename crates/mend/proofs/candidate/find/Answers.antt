@@ -4,17 +4,14 @@ use mathlib.Core.Bool.{Bool}
 use mathlib.Core.Path.{◌≡◌, sym, ap, ap₂, ◌∙◌, subst}
 use Prim.Native.Nat.{◌+◌, ◌≤◌}
 use native.Mathlib.Omega.{arith}
-use borrow.Author.Rules.{rules}
-use lib.ListN.{length}
 use lib.Seq.{length-take-le}
 use Rattle.field.specs.declared.curve.Curve.{Curve}
-use Rattle.field.proofs.Curves.{short_curve, short_sizes}
+use Rattle.field.proofs.Curves.{short_curve}
 use Rattle.poly.proofs.Entries.{zeros}
 use Rattle.code.specs.Terms.{size}
-use Rattle.mend.specs.Inner.Locating.{reach, Locator}
+use Rattle.mend.specs.Inner.Locating.{reach}
 use Rattle.mend.specs.Inner.Candidates.{Located}
-use Rattle.mend.proofs.Dimensions.{reach_lt, reach_size}
-use Rattle.poly.proofs.Fronts.{front_fits, front_again, again_long}
+use Rattle.mend.proofs.Dimensions.{reach_size}
 use Rattle.mend.proofs.Locators.{none_near}
 use Rattle.code.proofs.FullColumns.{readable}
 use Rattle.mend.proofs.Candidates.{word_accepted, unencoded_only}

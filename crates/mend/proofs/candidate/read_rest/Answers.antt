@@ -4,14 +4,13 @@ use mathlib.Core.List.{List}
 use mathlib.Core.Path.{◌≡◌, sym, ap, ◌∙◌, subst}
 use Prim.Native.Nat.{ℕ, ◌≤◌}
 use native.Mathlib.Omega.{arith}
-use borrow.Author.Rules.{rules}
 use lib.ListN.{length, take}
 use lib.Seq.{length-take-le}
 use Rattle.field.proofs.Outcomes.{not_done}
 use Rattle.field.proofs.Curves.{sizes, short_curve, short_sizes}
 use Rattle.field.proofs.Fields.{field_of}
 use Rattle.poly.proofs.Entries.{zeros}
-use Rattle.poly.proofs.Fronts.{front_fits, front_again, again_long}
+use Rattle.poly.proofs.Fronts.{front_again, again_long}
 use Rattle.points.specs.Series.{columns_of}
 use Rattle.code.specs.Answers.{answered}
 use Rattle.code.specs.Recovered.{answer_of, reading}

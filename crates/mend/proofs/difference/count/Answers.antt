@@ -1,11 +1,9 @@
 -- `mend::difference::count` meets its contract. The invariant of its loop: n counts the places below p.
 -- Assumes nothing.
-use mathlib.Core.Logic.{⊎_elim}
-use mathlib.Core.Path.{◌≡◌, sym, ap, ◌∙◌}
-use Prim.Native.Nat.{ℕ, ◌+◌, ◌-◌, ◌≤◌}
+use mathlib.Core.Path.{sym, ap, ◌∙◌}
+use Prim.Native.Nat.{ℕ, ◌+◌}
 use native.Mathlib.Omega.{arith}
-use lib.ListN.{length}
-use Rattle.mend.proofs.Marks.{differing_below, differing_none, differing_more, differing_same, differing_all}
+use Rattle.mend.proofs.Marks.{differing_none, differing_more, differing_same, differing_all}
 use Rattle.mend.proofs.difference.count.Goals as goal
 use Rattle.mend.proofs.difference.count.Goals.{else-a-p, then-a-p}
 

@@ -1,10 +1,8 @@
 -- `mend::difference::mark` meets its contract. The invariant of its loop: the marks of the places below p are written.
 -- Assumes nothing.
-use mathlib.Core.Logic.{⊎_elim}
-use mathlib.Core.Path.{◌≡◌, refl, ◌∙◌}
-use Prim.Native.Nat.{◌-◌, ◌≤◌}
+use mathlib.Core.Path.{refl, ◌∙◌}
 use native.Mathlib.Omega.{arith}
-use lib.ListN.{length, length-set}
+use lib.ListN.{length-set}
 use Rattle.poly.specs.Inner.Ranges.{writes}
 use Rattle.poly.proofs.Writes.{writes_turn}
 use Rattle.mend.proofs.Marks.{mark_at, mark_same, mark_differs, marks_end}

@@ -1,12 +1,9 @@
 -- `mend::difference::mark` meets its contract. The invariant of its loop: the marks of the places below p are written.
-use mathlib.Core.Logic.{⊎_elim}
-use mathlib.Core.Path.{◌≡◌, refl, ◌∙◌}
+use mathlib.Core.Path.{◌≡◌}
 use Prim.Native.Nat.{◌-◌, ◌≤◌}
-use native.Mathlib.Omega.{arith}
-use lib.ListN.{length, length-set}
+use lib.ListN.{length}
 use Rattle.poly.specs.Inner.Ranges.{writes}
-use Rattle.poly.proofs.Writes.{writes_turn}
-use Rattle.mend.proofs.Marks.{mark_at, mark_same, mark_differs, marks_end}
+use Rattle.mend.proofs.Marks.{mark_at}
 use Rattle.mend.proofs.difference.mark.Given as goal
 
 abbrev pub invariant-loop-p : goal.invariant-loop-p

@@ -1,16 +1,11 @@
 -- `mend::locator::bring_entries` meets its contract: entry by entry. Assumes nothing.
-use mathlib.Core.Logic.{⊎_elim}
-use mathlib.Core.Path.{◌≡◌, sym, ap, ◌∙◌, subst}
-use Prim.Native.Nat.{◌+◌, ◌-◌, ◌*◌, ◌≤◌}
-use native.Mathlib.Nat.{le_antisymm}
+use mathlib.Core.Path.{◌≡◌, ap}
+use Prim.Native.Nat.{◌+◌, ◌*◌}
 use native.Mathlib.Omega.{arith}
 use Rattle.field.specs.declared.curve.Curve.{Curve}
-use Rattle.field.proofs.Curves.{short_curve, short_sizes, short_not_long}
-use Rattle.code.proofs.GridEntries.{split_sum}
-use Rattle.code.proofs.Weights.{small_weight}
+use Rattle.field.proofs.Curves.{short_not_long}
 use Rattle.mend.specs.Inner.Products.{grid_from}
-use Rattle.mend.specs.Inner.Locating.{HoldsHeavy}
-use Rattle.mend.proofs.HeavyEntries.{heavy_none, heavy_light, weight_split, bring_ready, bring_turn}
+use Rattle.mend.proofs.HeavyEntries.{heavy_light, weight_split, bring_ready, bring_turn}
 use Rattle.mend.proofs.locator.bring_entries.Goals as goal
 use Rattle.mend.proofs.locator.bring_entries.Goals.{After-divide-d, else-m-s, then-m-s}
 
@@ -41,6 +36,9 @@ loop-e-preserved c =
     let g = grid_from x.n x.starts.now x.grids.now in
     let w = weight_split x.q l.e _ _ c.divide-d.ensures in (
       omega (arith, e),
-      elim c.if-m-s.branch [ then-m-s v ↦ rw v.work-is (bring_turn x.q x.m x.s x.n x.starts.now x.grids.now c.requires.short.3 l.e l.work l.invariant.1 _ e
-          (omega (arith, v.if-m-s.true, in_x (goal.at.loop-e-preserved c).After-divide-d, in_y (goal.at.loop-e-preserved c).After-divide-d, w)) v.bring_entry.ensures.well_formed_2 v.bring_entry.ensures.holds_more) | else-m-s v ↦ rw v.work-is (heavy_light x.q x.m x.s g l.work l.e l.invariant.1 (omega (arith, v.if-m-s.false, in_x (goal.at.loop-e-preserved c).After-divide-d, in_y (goal.at.loop-e-preserved c).After-divide-d, w))) ],
+      elim c.if-m-s.branch [
+        | then-m-s v ↦ rw v.work-is (bring_turn x.q x.m x.s x.n x.starts.now x.grids.now c.requires.short.3 l.e l.work l.invariant.1 _ e
+            (omega (arith, v.if-m-s.true, in_x (goal.at.loop-e-preserved c).After-divide-d, in_y (goal.at.loop-e-preserved c).After-divide-d, w)) v.bring_entry.ensures.well_formed_2 v.bring_entry.ensures.holds_more)
+        | else-m-s v ↦ rw v.work-is (heavy_light x.q x.m x.s g l.work l.e l.invariant.1 (omega (arith, v.if-m-s.false, in_x (goal.at.loop-e-preserved c).After-divide-d, in_y (goal.at.loop-e-preserved c).After-divide-d, w)))
+      ],
     )

@@ -1,12 +1,11 @@
 -- `mend::locator::bring_entry` meets its contract: the equation, whose right-hand side is 0, never contradicts. Assumes nothing.
 use mathlib.Core.Path.{◌≡◌, ◌∙◌}
 use native.Mathlib.Omega.{arith}
-use borrow.Author.Rules.{rules}
 use lib.ListN.{length}
 use Rattle.poly.specs.Inner.Ranges.{writes}
 use Rattle.poly.proofs.Entries.{zeros}
 use Rattle.mend.specs.Inner.Products.{entry_from}
-use Rattle.mend.proofs.HeavyEntries.{rest_long, row_gathered, row_equation, brought_more}
+use Rattle.mend.proofs.HeavyEntries.{row_gathered, row_equation, brought_more}
 use Rattle.mend.proofs.locator.bring_entry.Goals as goal
 use Rattle.mend.proofs.locator.bring_entry.Goals.{After-gather_listed}
 

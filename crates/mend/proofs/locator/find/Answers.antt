@@ -1,18 +1,15 @@
 -- `mend::locator::find` meets its contract: a solution of the equations other than 0 locates. Assumes nothing.
-use mathlib.Core.Path.{◌≡◌, refl, sym, ap, ◌∙◌, subst}
+use mathlib.Core.Path.{◌≡◌, refl, sym, ap, ◌∙◌}
 use Prim.Native.Nat.{ℕ, ◌+◌, ◌/◌, ◌<◌}
 use native.Mathlib.Omega.{arith}
-use borrow.Author.Rules.{rules}
 use lib.ListN.{length, take, length-replicate}
 use lib.Seq.{length-take-le}
-use Rattle.field.proofs.Curves.{short_curve, short_sizes, short_not_long}
-use Rattle.field.proofs.Fields.{field_of}
-use Rattle.linear.specs.Inner.Systems.{WellFormed}
+use Rattle.field.proofs.Curves.{short_sizes}
 use Rattle.poly.proofs.Entries.{get_or_zeros}
 use Rattle.code.specs.Terms.{size}
 use Rattle.mend.specs.Inner.Locating.{reach}
 use Rattle.mend.proofs.Dimensions.{reach_size, reach_short, reach_count, reach_grids}
-use Rattle.mend.proofs.ProductTerms.{Prepared, starts_taken, readable, word_symbols, heavy_low, located}
+use Rattle.mend.proofs.ProductTerms.{Prepared, starts_taken, readable, heavy_low, located}
 use Rattle.mend.proofs.locator.find.Goals as goal
 use Rattle.mend.proofs.locator.find.Goals.{After-divide-d, After-write_starts, Start}
 

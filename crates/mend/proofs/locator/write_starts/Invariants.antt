@@ -1,14 +1,8 @@
 -- `mend::locator::write_starts` meets its contract: term by term. Assumes nothing.
-use mathlib.Core.Path.{◌≡◌, refl, ap, ◌∙◌}
-use Prim.Native.Nat.{◌+◌, ◌-◌, ◌*◌, ◌≤◌, ◌<◌}
-use native.Mathlib.Omega.{arith}
-use lib.ListN.{length}
-use Rattle.field.proofs.Curves.{short_curve}
+use mathlib.Core.Path.{◌≡◌}
+use Prim.Native.Nat.{◌-◌, ◌≤◌}
 use Rattle.poly.specs.Inner.Ranges.{writes}
-use Rattle.poly.proofs.Writes.{length_writes, writes_turn}
-use Rattle.code.specs.Terms.{size}
 use Rattle.mend.specs.Inner.Products.{start_of}
-use Rattle.mend.proofs.TermStarts.{start_is, start_small, starts_written}
 use Rattle.mend.proofs.locator.write_starts.Given as goal
 
 abbrev pub invariant-loop-n : goal.invariant-loop-n

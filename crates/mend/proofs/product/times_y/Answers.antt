@@ -1,11 +1,8 @@
 -- `mend::product::times_y` meets its contract: entry by entry. Assumes nothing.
-use mathlib.Core.Path.{◌≡◌, refl, ap₂, ◌∙◌}
-use Prim.Native.Nat.{◌-◌, ◌*◌, ◌/◌, ◌%◌, ◌≤◌, ◌<◌}
-use native.Mathlib.Nat.{div-lt_iff_lt-mul, mod-lt}
+use mathlib.Core.Path.{refl, ap₂, ◌∙◌}
 use native.Mathlib.Omega.{arith}
-use Rattle.field.proofs.Curves.{sizes, short_curve, short_sizes}
 use Rattle.poly.specs.Inner.Ranges.{writes}
-use Rattle.poly.proofs.Writes.{writes_turn, writes_end}
+use Rattle.poly.proofs.Writes.{writes_turn}
 use Rattle.mend.specs.Inner.Products.{times_yAt}
 use Rattle.mend.proofs.product.times_y.Goals as goal
 

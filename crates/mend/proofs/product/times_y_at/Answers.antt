@@ -1,13 +1,9 @@
 -- `mend::product::times_y_at` meets its contract. Assumes nothing.
 use mathlib.Core.Path.{ap}
-use Prim.Native.Nat.{◌+◌, ◌*◌, ◌<◌}
-use native.Mathlib.Omega.{arith}
-use borrow.Author.Rules.{rules}
+use Prim.Native.Nat.{◌*◌}
 use borrow.Author.Tests.{eq-eqb, ne_eqb}
-use lib.ListN.{length, get_or}
+use lib.ListN.{get_or}
 use Rattle.field.specs.Plus.{plus}
-use Rattle.field.proofs.Curves.{short_curve}
-use Rattle.mend.proofs.ProductGrids.{entry_lt}
 use Rattle.mend.proofs.product.times_y_at.Goals as goal
 
 pub returns-then-j-eq1 : goal.returns-then-j-eq1

@@ -1,11 +1,7 @@
 -- `mend::product::turned` meets its contract. Assumes nothing.
 use mathlib.Core.Path.{ap₂}
-use native.Mathlib.Omega.{arith}
-use borrow.Author.Rules.{rules}
-use borrow.Author.Tests.{eq-eqb, ne_eqb, lt-ltb, le-ltb}
+use borrow.Author.Tests.{eq-eqb, ne_eqb, le-ltb}
 use Rattle.field.specs.Plus.{plus}
-use Rattle.field.proofs.Curves.{short_curve, short_sizes}
-use Rattle.mend.proofs.ProductGrids.{many_columns}
 use Rattle.mend.proofs.product.turned.Goals as goal
 
 pub returns-then-i-width-2 : goal.returns-then-i-width-2

@@ -1,17 +1,9 @@
 -- `mend::product::write_products` meets its contract: power of y by power of y. Assumes nothing.
-use mathlib.Core.Path.{◌≡◌, sym, ◌∙◌, subst}
-use Prim.Native.Nat.{ℕ, ◌+◌, ◌-◌, ◌*◌, ◌≤◌}
-use native.Mathlib.Nat.{le_antisymm}
-use native.Mathlib.Omega.{arith}
-use lib.ListN.{length}
+use Prim.Native.Nat.{◌-◌, ◌≤◌}
 use Rattle.field.specs.Curve.{IsCurve}
-use Rattle.field.proofs.Curves.{short_curve, short_sizes}
-use Rattle.poly.proofs.Parts.{length_part}
 use Rattle.points.specs.Series.{columns_of}
-use Rattle.points.proofs.Series.{full_columns, length_columns, full_places}
-use Rattle.mend.specs.Inner.Products.{Products}
-use Rattle.mend.proofs.ProductGrids.{full_word, takes_grid, product_start}
-use Rattle.mend.proofs.ProductBlocks.{block_before, one_part, Producing, producing_none, producing_more}
+use Rattle.points.proofs.Series.{full_columns, length_columns}
+use Rattle.mend.proofs.ProductBlocks.{Producing}
 use Rattle.mend.proofs.product.write_products.Given as goal
 
 abbrev pub invariant-loop-j : goal.invariant-loop-j

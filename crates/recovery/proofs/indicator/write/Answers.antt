@@ -1,13 +1,11 @@
 -- `recovery::indicator::write` meets its contract: the blocks of sixteen, and the factors in y added to the first entries.
 -- Assumes nothing.
-use mathlib.Core.Path.{ap, refl, ◌∙◌}
+use mathlib.Core.Path.{refl}
 use native.Mathlib.Omega.{arith}
-use borrow.Author.Rules.{rules}
-use lib.ListN.{length}
 use Rattle.field.proofs.Fields.{field_of}
 use Rattle.field.proofs.FieldLaws.{zero_lt}
 use Rattle.field.proofs.Curves.{sizes}
-use Rattle.poly.proofs.LaneLaws.{length_lanes, lanes_below}
+use Rattle.poly.proofs.LaneLaws.{lanes_below}
 use Rattle.recovery.proofs.IndicatorBlocks.{taken_symbols, grid_room, point_written}
 use Rattle.recovery.proofs.indicator.write.Goals as goal
 

@@ -1,15 +1,8 @@
 -- `recovery::indicator::write_blocks` meets its contract. The invariant of its loop: the blocks from b on are written.
 -- Assumes nothing.
-use mathlib.Core.Path.{ap, ◌∙◌}
-use Prim.Native.Nat.{◌-◌, ◌*◌, ◌≤◌}
-use native.Mathlib.Omega.{arith}
-use borrow.Author.Rules.{rules}
-use lib.ListN.{length}
 use Rattle.field.proofs.Fields.{field_of}
 use Rattle.field.proofs.Powers.{power_lt}
-use Rattle.poly.specs.Inner.Ranges.{part}
-use Rattle.poly.proofs.LaneLaws.{length_lanes}
-use Rattle.recovery.proofs.IndicatorBlocks.{BlocksFrom, blocks_none, block_within, blocks_turn, blocks_all}
+use Rattle.recovery.proofs.IndicatorBlocks.{blocks_none, blocks_turn}
 use Rattle.recovery.proofs.indicator.write_blocks.Goals as goal
 
 pub loop-b-init : goal.loop-b-init

@@ -3,7 +3,6 @@
 use mathlib.Core.Path.{sym, ◌∙◌}
 use Prim.Native.Nat.{◌<◌}
 use native.Mathlib.Omega.{arith}
-use borrow.Author.Rules.{rules}
 use Rattle.field.proofs.Curves.{short_sizes}
 use Rattle.field.proofs.Outcomes.{not_done}
 use Rattle.session.proofs.Arrivals.{checked_place, arrived_refused, arrived_merged}

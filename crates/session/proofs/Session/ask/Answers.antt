@@ -1,11 +1,9 @@
 -- `session::Session::ask` meets its contract: it is recovery from the word that is read.
 -- Assumes nothing.
-use mathlib.Core.Path.{◌≡◌, sym, ◌∙◌}
+use mathlib.Core.Path.{◌≡◌, ◌∙◌}
 use borrow.Author.Rules.{rules}
-use lib.ListN.{length, length-map}
-use lib.Seq.{length-take-le}
-use Prim.Native.Nat.{◌≤◌}
-use Rattle.session.proofs.Arrivals.{read_room, asked_recovered}
+use lib.ListN.{length}
+use Rattle.session.proofs.Arrivals.{asked_recovered}
 use Rattle.session.proofs.Session.ask.Goals as goal
 use Rattle.session.proofs.Session.ask.Goals.{Start}
 

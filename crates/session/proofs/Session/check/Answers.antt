@@ -3,18 +3,17 @@
 use mathlib.Core.Bool.{Bool, true}
 use mathlib.Core.List.{List}
 use mathlib.Core.Path.{◌≡◌, sym, ap, ap₂, ◌∙◌}
-use Prim.Native.Nat.{ℕ, ◌*◌, ◌≤◌, ◌<◌}
+use Prim.Native.Nat.{ℕ, ◌*◌, ◌<◌}
 use native.Mathlib.Omega.{arith}
 use borrow.Author.Rules.{rules}
-use lib.ListN.{length, length-map}
-use lib.Seq.{length-take-le}
+use lib.ListN.{length}
 use Rattle.field.specs.Curve.{is_short, IsShort}
-use Rattle.field.proofs.Curves.{short_curve, short_sizes, short_of_true}
+use Rattle.field.proofs.Curves.{short_of_true}
 use Rattle.field.specs.declared.outcome.Outcome.TheVariants.{Done}
 use Rattle.points.specs.Series.{is_series}
 use Rattle.code.specs.Checks.{order_checks, value_check}
 use Rattle.code.proofs.Checks.{order_done}
-use Rattle.session.proofs.Arrivals.{reads, read_room, ValuesChecked, checks_order, checks_value, checks_place, checks_symbol, checks_done}
+use Rattle.session.proofs.Arrivals.{reads, ValuesChecked, checks_order, checks_value, checks_place, checks_symbol, checks_done}
 use Rattle.session.proofs.Session.check.Goals as goal
 use Rattle.session.proofs.Session.check.Goals.{After-order-first, After-received_word-word, After-values-second, Start}
 

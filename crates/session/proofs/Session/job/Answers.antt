@@ -1,11 +1,8 @@
 -- `session::Session::job` meets its contract: it is an opening from the word that is read.
 -- Assumes nothing.
-use mathlib.Core.Path.{◌≡◌, sym, ◌∙◌}
-use Prim.Native.Nat.{◌≤◌}
+use mathlib.Core.Path.{◌≡◌, ◌∙◌}
 use borrow.Author.Rules.{rules}
 use lib.ListN.{length}
-use lib.Seq.{length-take-le}
-use Rattle.session.proofs.Arrivals.{read_room}
 use Rattle.session.proofs.Jobs.{job_opened_lem}
 use Rattle.session.proofs.Session.job.Goals as goal
 use Rattle.session.proofs.Session.job.Goals.{Start}
@@ -16,6 +13,6 @@ long c = search rules
 
 pub returns : goal.returns
 returns c = record {
-      self_value = job_opened_lem c.args.self (long (goal.at.returns c).Start) c.received_word-word.result c.received_word-word.ensures ∙ c.open.ensures.word_value;
-      sound = c.open.ensures.sound;
-    }
+  self_value = job_opened_lem c.args.self (long (goal.at.returns c).Start) c.received_word-word.result c.received_word-word.ensures ∙ c.open.ensures.word_value;
+  sound = c.open.ensures.sound;
+}

@@ -1,14 +1,8 @@
 -- `session::replay::receive` meets its contract: the session so far is handed on along what is left of the lists.
 -- Assumes nothing.
 use mathlib.Core.Logic.{inl, inr}
-use mathlib.Core.Path.{◌≡◌, refl, sym, ◌∙◌}
-use Prim.Native.Nat.{◌-◌}
+use mathlib.Core.Path.{sym, ◌∙◌}
 use native.Mathlib.Omega.{arith}
-use borrow.Author.Rules.{rules}
-use borrow.Author.Tests.{ltb-true, ltb-false}
-use lib.ListN.{length, drop}
-use Rattle.session.specs.Claim.{session_from}
-use Rattle.session.specs.Replayed.{arrivals}
 use Rattle.session.proofs.Replays.{receive_next, receive_end}
 use Rattle.session.proofs.replay.receive.Goals as goal
 

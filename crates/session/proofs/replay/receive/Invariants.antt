@@ -1,14 +1,9 @@
 -- `session::replay::receive` meets its contract: the session so far is handed on along what is left of the lists.
-use mathlib.Core.Logic.{inl, inr}
-use mathlib.Core.Path.{◌≡◌, refl, sym, ◌∙◌}
+use mathlib.Core.Path.{◌≡◌}
 use Prim.Native.Nat.{◌-◌}
-use native.Mathlib.Omega.{arith}
-use borrow.Author.Rules.{rules}
-use borrow.Author.Tests.{ltb-true, ltb-false}
 use lib.ListN.{length, drop}
 use Rattle.session.specs.Claim.{session_from}
 use Rattle.session.specs.Replayed.{arrivals}
-use Rattle.session.proofs.Replays.{receive_next, receive_end}
 use Rattle.session.proofs.replay.receive.Given as goal
 
 abbrev pub invariant-loop-i : goal.invariant-loop-i

@@ -1,7 +1,6 @@
 -- `session::replay::replay` meets its contract: a refused opening ends it, and else the session after the arrivals is asked.
 -- Assumes nothing.
 use mathlib.Core.Path.{◌∙◌}
-use borrow.Author.Rules.{rules}
 use Rattle.field.proofs.Outcomes.{not_done}
 use Rattle.session.proofs.Replays.{replayed_asked, replayed_refused}
 use Rattle.session.proofs.replay.replay.Goals as goal

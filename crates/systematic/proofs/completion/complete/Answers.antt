@@ -1,13 +1,7 @@
 -- `systematic::completion::complete` meets its contract: either way has the same.
 -- Assumes nothing.
 use native.Mathlib.Omega.{arith}
-use borrow.Author.Rules.{rules}
 use Rattle.systematic.proofs.Completions.{size_short}
-use Rattle.systematic.proofs.completion.complete.Reads as reads
-use Rattle.systematic.proofs.completion.complete.Lts as lts
-use Rattle.code.proofs.term.size.Reads as size-reads
-use Rattle.systematic.proofs.completion.complete_by_gaps.Reads as complete-by-gaps-reads
-use Rattle.systematic.proofs.completion.complete_by_terms.Reads as complete-by-terms-reads
 use Rattle.systematic.proofs.completion.complete.Goals as goal
 
 -- src/completion.rt:100:8

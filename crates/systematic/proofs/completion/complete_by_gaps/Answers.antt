@@ -4,7 +4,6 @@ use mathlib.Core.List.{List}
 use mathlib.Core.Path.{◌≡◌, sym, ap, ◌∙◌, subst}
 use Prim.Native.Nat.{ℕ, ◌≤◌}
 use native.Mathlib.Omega.{arith}
-use borrow.Author.Rules.{rules}
 use lib.ListN.{length}
 use Rattle.field.specs.declared.outcome.Outcome.TheVariants.{Done}
 use Rattle.field.proofs.Fields.{field_of}
@@ -16,7 +15,6 @@ use Rattle.code.specs.Recovered.{message, reading}
 use Rattle.code.specs.Terms.{size}
 use Rattle.code.specs.Word.{word_of}
 use Rattle.code.specs.Inner.Encodable.{Encodable}
-use Rattle.recovery.proofs.GapAnswers.{broken_0}
 use Rattle.systematic.proofs.Completions.{size_short, answered_done, answered_refused, read_encodable}
 use Rattle.systematic.proofs.TermSystems.{completion_message, completion_other}
 use Rattle.systematic.proofs.completion.complete_by_gaps.Goals as goal

@@ -5,14 +5,13 @@ use mathlib.Core.List.{◌++◌}
 use mathlib.Core.Path.{◌≡◌, sym, ap, ◌∙◌, subst}
 use Prim.Native.Nat.{◌*◌, ◌≤◌}
 use native.Mathlib.Omega.{arith}
-use borrow.Author.Rules.{rules}
 use lib.ListN.{length, take, drop}
 use lib.Seq.{length-take-le}
 use Rattle.field.specs.declared.outcome.Outcome.TheVariants.{Done}
 use Rattle.field.proofs.Fields.{field_of}
 use Rattle.field.proofs.FieldLaws.{zero_lt}
 use Rattle.poly.proofs.Entries.{zeros, below_zeros}
-use Rattle.poly.proofs.Fronts.{lent_long, written_long, written_inside, written_below}
+use Rattle.poly.proofs.Fronts.{written_long, written_inside, written_below}
 use Rattle.points.specs.Series.{columns_of}
 use Rattle.code.specs.Answers.{answered}
 use Rattle.recovery.proofs.GapAnswers.{broken_0, short_places}
@@ -76,14 +75,14 @@ take_out-requires c =
     let Known-of = written_inside 64 _ (few (goal.at.take_out-requires c).Start) _ c.fill.new.out c.fill.ensures in record {
       short = (c.requires.1, c.requires.2, few (goal.at.take_out-requires c).Start);
       words_len = (
-          length-take-le _ c.write.new.vectors (words_fit (goal.at.take_out-requires c).After-write),
-          (words (goal.at.take_out-requires c).After-write).symbols,
-        );
+        length-take-le _ c.write.new.vectors (words_fit (goal.at.take_out-requires c).After-write),
+        (words (goal.at.take_out-requires c).After-write).symbols,
+      );
       left_len = (
-          known_long (goal.at.take_out-requires c).After-fill,
-          written_below 64 _ (few (goal.at.take_out-requires c).Start) _ c.fill.new.out c.fill.ensures F.size (zero_lt F) (known_lt x.q (columns_of x.q x.series) word (broken_0 _ _ _ _ c.requires.0)),
-          Known-of,
-        );
+        known_long (goal.at.take_out-requires c).After-fill,
+        written_below 64 _ (few (goal.at.take_out-requires c).Start) _ c.fill.new.out c.fill.ensures F.size (zero_lt F) (known_lt x.q (columns_of x.q x.series) word (broken_0 _ _ _ _ c.requires.0)),
+        Known-of,
+      );
     }
 
 pub returns-then-take_out : goal.returns-then-take_out

@@ -1,13 +1,12 @@
 -- `systematic::completion::mark_symbols` meets its contract. The invariant of its loop: the first p are written.
 -- Assumes nothing.
-use mathlib.Core.Logic.{⊎_elim}
-use mathlib.Core.Path.{◌≡◌, refl, ◌∙◌}
-use Prim.Native.Nat.{◌-◌, ◌*◌, ◌≤◌}
+use mathlib.Core.Path.{refl, ◌∙◌}
+use Prim.Native.Nat.{◌*◌}
 use native.Mathlib.Omega.{arith}
-use lib.ListN.{length, length-set}
+use lib.ListN.{length-set}
 use Rattle.poly.specs.Lists.{one_if}
 use Rattle.poly.specs.Inner.Ranges.{writes}
-use Rattle.poly.proofs.Writes.{writes_turn, writes_end}
+use Rattle.poly.proofs.Writes.{writes_turn}
 use Rattle.code.specs.Inner.Recovering.{present}
 use Rattle.systematic.proofs.TermSystems.{mark_gap, mark_symbol}
 use Rattle.systematic.proofs.completion.mark_symbols.Goals as goal

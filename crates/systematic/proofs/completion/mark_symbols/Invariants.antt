@@ -1,14 +1,10 @@
 -- `systematic::completion::mark_symbols` meets its contract. The invariant of its loop: the first p are written.
-use mathlib.Core.Logic.{⊎_elim}
-use mathlib.Core.Path.{◌≡◌, refl, ◌∙◌}
+use mathlib.Core.Path.{◌≡◌}
 use Prim.Native.Nat.{◌-◌, ◌*◌, ◌≤◌}
-use native.Mathlib.Omega.{arith}
-use lib.ListN.{length, length-set}
+use lib.ListN.{length}
 use Rattle.poly.specs.Lists.{one_if}
 use Rattle.poly.specs.Inner.Ranges.{writes}
-use Rattle.poly.proofs.Writes.{writes_turn, writes_end}
 use Rattle.code.specs.Inner.Recovering.{present}
-use Rattle.systematic.proofs.TermSystems.{mark_gap, mark_symbol}
 use Rattle.systematic.proofs.completion.mark_symbols.Given as goal
 
 abbrev pub invariant-loop-p : goal.invariant-loop-p

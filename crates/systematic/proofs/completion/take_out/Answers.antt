@@ -4,11 +4,10 @@ use mathlib.Core.List.{◌++◌}
 use mathlib.Core.Path.{◌≡◌, sym, ◌∙◌, subst}
 use Prim.Native.Nat.{ℕ, ◌≤◌}
 use native.Mathlib.Omega.{arith}
-use borrow.Author.Rules.{rules}
 use lib.ListN.{length, drop}
 use Rattle.field.proofs.Fields.{field_of}
 use Rattle.poly.proofs.Entries.{zeros}
-use Rattle.poly.proofs.Fronts.{lent_long, written_long}
+use Rattle.poly.proofs.Fronts.{written_long}
 use Rattle.linear.specs.Inner.Combinations.{rows_from, Eliminated}
 use Rattle.linear.specs.Inner.Eliminating.{marked, Masks}
 use Rattle.code.specs.Terms.{size}

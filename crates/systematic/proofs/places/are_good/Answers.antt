@@ -1,10 +1,7 @@
 -- `systematic::places::are_good` meets its contract: the first i places ascend below n.
 -- Assumes nothing.
-use Prim.Native.Nat.{◌-◌}
 use native.Mathlib.Omega.{arith}
-use borrow.Author.Rules.{rules}
-use lib.ListN.{length}
-use Rattle.poly.proofs.Ascending.{FirstAscend, first_none, first_turn, not_ascending, not_below, all_ascend}
+use Rattle.poly.proofs.Ascending.{not_ascending, not_below, all_ascend}
 use Rattle.systematic.proofs.PlaceLists.{are_good, not_many, not_good}
 use Rattle.systematic.proofs.places.are_good.Goals as goal
 

@@ -1,10 +1,7 @@
 -- `systematic::places::are_good` meets its contract: the first i places ascend below n.
 use Prim.Native.Nat.{◌-◌}
-use native.Mathlib.Omega.{arith}
-use borrow.Author.Rules.{rules}
 use lib.ListN.{length}
-use Rattle.poly.proofs.Ascending.{FirstAscend, first_none, first_turn, not_ascending, not_below, all_ascend}
-use Rattle.systematic.proofs.PlaceLists.{are_good, not_many, not_good}
+use Rattle.poly.proofs.Ascending.{FirstAscend}
 use Rattle.systematic.proofs.places.are_good.Given as goal
 
 abbrev pub invariant-loop-i : goal.invariant-loop-i

@@ -1,12 +1,9 @@
 -- `systematic::places::place` meets its contract: the first i symbols are laid out.
 -- Assumes nothing.
-use mathlib.Core.Path.{◌≡◌, refl, sym, ap, ◌∙◌}
-use Prim.Native.Nat.{◌-◌, ◌≤◌}
-use native.Mathlib.Nat.{le_antisymm}
+use mathlib.Core.Path.{refl, sym}
 use native.Mathlib.Omega.{arith}
-use borrow.Author.Rules.{rules}
-use lib.ListN.{length, length-set}
-use Rattle.code.proofs.GridEntries.{laid, laid_none, laid_turn}
+use lib.ListN.{length-set}
+use Rattle.code.proofs.GridEntries.{laid_none, laid_turn}
 use Rattle.systematic.proofs.places.place.Goals as goal
 
 pub loop-i-init : goal.loop-i-init

@@ -1,11 +1,8 @@
 -- `systematic::places::place` meets its contract: the first i symbols are laid out.
-use mathlib.Core.Path.{◌≡◌, refl, sym, ap, ◌∙◌}
+use mathlib.Core.Path.{◌≡◌}
 use Prim.Native.Nat.{◌-◌, ◌≤◌}
-use native.Mathlib.Nat.{le_antisymm}
-use native.Mathlib.Omega.{arith}
-use borrow.Author.Rules.{rules}
-use lib.ListN.{length, length-set}
-use Rattle.code.proofs.GridEntries.{laid, laid_none, laid_turn}
+use lib.ListN.{length}
+use Rattle.code.proofs.GridEntries.{laid}
 use Rattle.systematic.proofs.places.place.Given as goal
 
 abbrev pub invariant-loop-i : goal.invariant-loop-i

@@ -2,15 +2,13 @@
 -- Assumes nothing.
 use mathlib.Core.List.{List}
 use mathlib.Core.Path.{◌≡◌, ap, ap₂, ◌∙◌, subst}
-use Prim.Native.Nat.{ℕ, ◌+◌, ◌-◌, ◌≤◌, ◌<◌}
+use Prim.Native.Nat.{ℕ, ◌+◌, ◌≤◌, ◌<◌}
 use native.Mathlib.Omega.{arith}
-use borrow.Author.Rules.{rules}
 use lib.ListN.{length, get_or}
 use Rattle.field.proofs.Fields.{field_of}
 use Rattle.poly.specs.Inner.Lanes.{lanes}
 use Rattle.poly.specs.Inner.Linear.{entry}
-use Rattle.poly.proofs.Parts.{length_part}
-use Rattle.poly.proofs.Fillings.{Filled, filled_none, filled_turn, filled_writes, filled_below}
+use Rattle.poly.proofs.Fillings.{Filled, filled_turn, filled_writes, filled_below}
 use Rattle.poly.proofs.LaneLaws.{length_lanes, lanes_at, lanes_below}
 use Rattle.systematic.proofs.term_words.multiply.Goals as goal
 use Rattle.systematic.proofs.term_words.multiply.Goals.{In-loop-j}

@@ -4,7 +4,6 @@ use mathlib.Core.List.{List}
 use mathlib.Core.Path.{◌≡◌, refl, sym, ap, subst}
 use Prim.Native.Nat.{ℕ, ◌*◌, ◌≤◌}
 use native.Mathlib.Omega.{arith}
-use borrow.Author.Rules.{rules}
 use lib.ListN.{length, take}
 use Rattle.field.proofs.Fields.{field_of}
 use Rattle.field.proofs.FieldLaws.{zero_lt}
@@ -12,7 +11,7 @@ use Rattle.field.proofs.Curves.{short_curve, short_sizes}
 use Rattle.poly.proofs.Entries.{below_zeros}
 use Rattle.points.specs.Series.{columns_of}
 use Rattle.points.specs.Inner.Columns.{Columns}
-use Rattle.points.proofs.AllColumns.{columns_are, columns_fit, columns_long}
+use Rattle.points.proofs.AllColumns.{columns_are}
 use Rattle.points.proofs.Series.{full_columns, full_places}
 use Rattle.systematic.specs.Inner.TermWords.{TermWords}
 use Rattle.systematic.proofs.term_words.write.Goals as goal

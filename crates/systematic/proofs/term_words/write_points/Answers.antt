@@ -1,13 +1,13 @@
 -- `systematic::term_words::write_points` meets its contract. The invariant of its loop: the points of the places below p are written.
 -- Assumes nothing.
 use mathlib.Core.Path.{◌≡◌, ap}
-use Prim.Native.Nat.{ℕ, ◌+◌, ◌-◌, ◌*◌, ◌/◌, ◌%◌, ◌≤◌, ◌<◌}
+use Prim.Native.Nat.{ℕ, ◌+◌, ◌*◌, ◌/◌, ◌%◌, ◌<◌}
 use native.Mathlib.Omega.{arith}
 use lib.ListN.{length, get_or}
 use Rattle.field.proofs.Curves.{sizes}
 use Rattle.points.specs.Points.{ys_of}
 use Rattle.code.proofs.PlacePoints.{place_point}
-use Rattle.systematic.proofs.TermRows.{PointsBelow, points_none, points_more, points_all}
+use Rattle.systematic.proofs.TermRows.{points_more}
 use Rattle.systematic.proofs.term_words.write_points.Goals as goal
 use Rattle.systematic.proofs.term_words.write_points.Goals.{After-divide-d}
 

@@ -1,11 +1,6 @@
 -- `systematic::term_words::write_powers` meets its contract. The invariant of its loop: the rows of the powers below i are written.
 -- Assumes nothing.
-use mathlib.Core.Path.{sym, ap, ◌∙◌}
-use Prim.Native.Nat.{ℕ, ◌+◌, ◌-◌, ◌%◌, ◌≤◌}
-use native.Mathlib.Omega.{arith}
-use borrow.Author.Rules.{rules}
-use lib.ListN.{length}
-use Rattle.systematic.proofs.TermRows.{PowersBelow, powers_none, powers_fit, powers_part, powers_more, powers_all}
+use Rattle.systematic.proofs.TermRows.{powers_none, powers_more}
 use Rattle.systematic.proofs.term_words.write_powers.Goals as goal
 
 pub loop-i-init : goal.loop-i-init

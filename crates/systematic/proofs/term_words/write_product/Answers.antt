@@ -2,7 +2,6 @@
 -- Assumes nothing.
 use mathlib.Core.Path.{sym, ap, ◌∙◌}
 use Prim.Native.Nat.{ℕ, ◌%◌}
-use borrow.Author.Rules.{rules}
 use Rattle.field.proofs.Fields.{field_of}
 use Rattle.systematic.proofs.TermRows.{product_written, copied_row}
 use Rattle.systematic.proofs.term_words.write_product.Goals as goal

@@ -1,12 +1,6 @@
 -- `systematic::term_words::write_products` meets its contract. The invariant of its loop: the rows of the terms below t are written.
-use Prim.Native.Nat.{◌+◌, ◌-◌, ◌*◌, ◌≤◌}
-use native.Mathlib.Omega.{arith}
-use lib.ListN.{length}
-use Rattle.field.proofs.Fields.{field_of}
-use Rattle.field.proofs.Curves.{short_curve, short_not_long}
-use Rattle.poly.proofs.Parts.{below_part}
-use Rattle.systematic.proofs.TermRows.{PowersOf, powers_of, term_small}
-use Rattle.systematic.proofs.TermRows.{ProductsBelow, products_none, products_fit, products_part, products_more, products_all}
+use Prim.Native.Nat.{◌-◌}
+use Rattle.systematic.proofs.TermRows.{ProductsBelow}
 use Rattle.systematic.proofs.term_words.write_products.Given as goal
 
 abbrev pub invariant-loop-t : goal.invariant-loop-t

@@ -2,10 +2,9 @@
 -- Assumes nothing.
 use Prim.Native.Nat.{◌+◌, ◌*◌, ◌≤◌}
 use native.Mathlib.Omega.{arith}
-use borrow.Author.Rules.{rules}
 use Rattle.field.proofs.Fields.{field_of}
 use Rattle.field.proofs.FieldLaws.{zero_lt}
-use Rattle.field.proofs.Curves.{short_curve, short_sizes, short_not_long}
+use Rattle.field.proofs.Curves.{short_sizes, short_not_long}
 use Rattle.poly.proofs.Entries.{below_zeros}
 use Rattle.systematic.proofs.TermRows.{rows_room, words_written}
 use Rattle.systematic.proofs.term_words.write_words.Goals as goal

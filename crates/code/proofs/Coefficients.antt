@@ -17,7 +17,7 @@ use Rattle.field.proofs.Sums.{sum_suc, sum_cong}
 use Rattle.field.proofs.Fields.{field_of}
 use Rattle.poly.specs.Messages.{Vector, snoc}
 use Rattle.poly.proofs.Bools.{T_true}
-use Rattle.poly.proofs.Messages.{length_snoc, get_or_snoc, get_or_snoc_last, tabulate, get_d_tabulate, vector_tabulate}
+use Rattle.poly.proofs.Messages.{length_snoc, get_or_snoc, get_or_snoc_last, tabulate, get_or_tabulate, vector_tabulate}
 use Rattle.poly.proofs.Keep.{keep, keep_cong}
 use Rattle.points.specs.Passing.{passing}
 use Rattle.points.proofs.Passing.{place, place_lt, passing_at, at_place}
@@ -69,7 +69,7 @@ message_of q m c = tabulate (size q m) (λ i. c (get_or (weights q m) i 0))
 pub coefficient_of_message : (q m : ℕ) (c : ℕ → ℕ) (w : ℕ) → w ≤ m → is_term q w ≡ true → coefficient_of q (message_of q m c) w ≡ c w
 unfolding message_of
 coefficient_of_message q m c w l t =
-    get_d_tabulate (size q m) (λ i. c (get_or (weights q m) i 0)) (place (is_term q) w) (place_lt (is_term q) w (suc m) t (omega arith))
+    get_or_tabulate (size q m) (λ i. c (get_or (weights q m) i 0)) (place (is_term q) w) (place_lt (is_term q) w (suc m) t (omega arith))
     ∙ ap c (passing_at (is_term q) (suc m) w t (omega arith))
 
 pub value_of_message : (q m : ℕ) (c : ℕ → ℕ) (x y : ℕ) → value_at q m (message_of q m c) x y ≡ value_by_weight (field_of q) q m c x y

@@ -21,7 +21,7 @@ use Rattle.field.proofs.Curves.{sizes, curve_true, curve_of_true}
 use Rattle.poly.specs.Lists.{Nodup, filter}
 use Rattle.poly.specs.Messages.{all}
 use Rattle.poly.proofs.Bools.{same_test}
-use Rattle.poly.proofs.Lists.{mem_get_or, get_or_mem, get_d_map}
+use Rattle.poly.proofs.Lists.{mem_get_or, get_or_mem, get_or_map}
 use Rattle.poly.proofs.Blocks.{block_fits}
 use Rattle.points.specs.Points.{ys_of, points_on}
 use Rattle.points.specs.Series.{is_series, other_series, columns_of}
@@ -90,7 +90,7 @@ pub same_symbol : (q : ℕ) (from to word : List ℕ) → Nodup from → (p r : 
 unfolding relisted
 same_symbol q from to word d p r k l e =
     let i : place_of (point_at q to r) (points_on q from) ≡ p = ap (λ (a : ℕ × ℕ). place_of a (points_on q from)) (sym e) ∙ place_of_lem q from d p k in
-    get_d_map (λ a. get_or word (place_of a (points_on q from)) 0) (points_on q to) (0, 0) 0 r l ∙ ap (λ (i : ℕ). get_or word i 0) i
+    get_or_map (λ a. get_or word (place_of a (points_on q from)) 0) (points_on q to) (0, 0) 0 r l ∙ ap (λ (i : ℕ). get_or word i 0) i
 
 -- column by column: where column number a of the one list is number b of the other
 pub relisted_at : (q : ℕ) (from to word : List ℕ) → Columns q from → Columns q to → (a b s : ℕ) → a < length to → b < length from → s < q

@@ -14,7 +14,7 @@ use lib.ListN.{length, get_or, take, set, replicate, length-set, length-replicat
 use lib.Seq.{length-take-le, get_or-take, get_or-set_same, get_or-set_other, ext_get_or}
 use Rattle.poly.specs.Inner.Ranges.{writes}
 use Rattle.poly.proofs.Bools.{true_or_false}
-use Rattle.poly.proofs.Lists.{get_d_map}
+use Rattle.poly.proofs.Lists.{get_or_map}
 use Rattle.poly.proofs.Entries.{get_or_zeros}
 use Rattle.poly.proofs.Writes.{length_writes, writes_in}
 use Rattle.points.proofs.Passing.{passing_at, at_place, place_lt, place_true, place_false}
@@ -110,7 +110,7 @@ module _ (q m : ℕ) (grid : List ℕ) where
 
   pub gather_number : (n : ℕ) → n < size q m → get_or (gather q m grid) n 0 ≡ get_or grid (entry_of q (get_or (weights q m) n 0)) 0
   unfolding gather
-  gather_number n l = get_d_map (λ w. get_or grid (entry_of q w) 0) (weights q m) 0 0 n l
+  gather_number n l = get_or_map (λ w. get_or grid (entry_of q w) 0) (weights q m) 0 0 n l
 
   pub gather_at : (w : ℕ) → is_term q w ≡ true → w ≤ m → get_or (gather q m grid) (rank q w) 0 ≡ get_or grid (entry_of q w) 0
   gather_at w t l =
@@ -185,12 +185,12 @@ entries_taken q m k list l e fits h =
 module _ (q : ℕ) (pos : 0 < q) (m : ℕ) where
   pub entry_number : (n w : ℕ) → WeightOfTerm q n w → n < size q m → get_or (entries_of q m) n 0 ≡ entry_of q w
   entry_number n w h l =
-      get_d_map (entry_of q) (weights q m) 0 0 n l ∙ ap (entry_of q) (weight_number q pos n w h m l).1
+      get_or_map (entry_of q) (weights q m) 0 0 n l ∙ ap (entry_of q) (weight_number q pos n w h m l).1
 
   pub entry_at_most : (n : ℕ) → n < size q m → get_or (entries_of q m) n 0 ≤ m
   entry_at_most n l =
       let w = at_place (is_term q) (suc m) n l in
-      omega (arith, get_d_map (entry_of q) (weights q m) 0 0 n l, w.0)
+      omega (arith, get_or_map (entry_of q) (weights q m) 0 0 n l, w.0)
 
   -- ---- a message laid out, coefficient by coefficient
 
@@ -226,5 +226,5 @@ module _ (q : ℕ) (pos : 0 < q) (m : ℕ) where
       (λ n b.
       let k : n < length message = omega (arith, length_writes message f (length message)) in
       let i : n < size q m = omega arith in
-      writes_in message f (length message) n k (omega arith) ∙ ap (λ (e : ℕ). get_or grid e 0) (get_d_map (entry_of q) (weights q m) 0 0 n i)
+      writes_in message f (length message) n k (omega arith) ∙ ap (λ (e : ℕ). get_or grid e 0) (get_or_map (entry_of q) (weights q m) 0 0 n i)
       ∙ sym (gather_number q m grid n i))

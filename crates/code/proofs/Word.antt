@@ -7,7 +7,7 @@ use lib.ListN.{length, get_or, length-map}
 use Rattle.field.specs.Plus.{plus}
 use Rattle.field.proofs.Sums.{sum_cong, sum_plus, sum_lt}
 use Rattle.field.proofs.Fields.{field_of}
-use Rattle.poly.proofs.Lists.{get_d_map}
+use Rattle.poly.proofs.Lists.{get_or_map}
 use Rattle.points.specs.Points.{points_on}
 use Rattle.code.specs.Terms.{weights, size}
 use Rattle.code.specs.Word.{monomial, value_at, word_of}
@@ -41,7 +41,7 @@ length_word q columns m message = length-map (points_on q columns) (λ p. value_
 pub word_at_point : (q : ℕ) (columns : List ℕ) (m : ℕ) (message : List ℕ) (t : ℕ) → t < length (points_on q columns)
     → get_or (word_of q columns m message) t 0 ≡ value_at q m message (point_at q columns t).0 (point_at q columns t).1
 unfolding word_of
-word_at_point q columns m message t = get_d_map (λ p. value_at q m message p.0 p.1) (points_on q columns) (0, 0) 0 t
+word_at_point q columns m message t = get_or_map (λ p. value_at q m message p.0 p.1) (points_on q columns) (0, 0) 0 t
 
 pub word_symbol : (q : ℕ) (columns : List ℕ) (m : ℕ) (message : List ℕ) (t : ℕ) → t < length (points_on q columns)
     → get_or (word_of q columns m message) t 0 < (field_of q).size

@@ -23,7 +23,7 @@ use Rattle.poly.specs.Lists.{Nodup, count, below}
 use Rattle.poly.specs.Messages.{Vector}
 use Rattle.poly.proofs.Lists.{mem_get_or, get_or_mem, nodup_get_or, nodup_map, count_every}
 use Rattle.poly.proofs.Below.{Among, length_below}
-use Rattle.poly.proofs.Messages.{tabulate, get_d_tabulate, vector_tabulate, vector_below, vector_ext}
+use Rattle.poly.proofs.Messages.{tabulate, get_or_tabulate, vector_tabulate, vector_below, vector_ext}
 use Rattle.poly.proofs.OrderDomain.{product as order_product}
 use Rattle.poly.proofs.OrderValues.{value, value_order, coefficients}
 use Rattle.poly.proofs.OrderZeros.{zeros as order_zeros}
@@ -130,7 +130,7 @@ agree q curve columns dc symbols m v w hv hw places dp l same =
     total = tabulate (size q m) (λ i. plus (get_or v i 0) (get_or w i 0))
 
     total_at : (i : ℕ) → i < size q m → get_or total i 0 ≡ plus (get_or v i 0) (get_or w i 0)
-    total_at = get_d_tabulate (size q m) (λ i. plus (get_or v i 0) (get_or w i 0))
+    total_at = get_or_tabulate (size q m) (λ i. plus (get_or v i 0) (get_or w i 0))
 
     at : ℕ → ℕ × ℕ
     at = point_at q columns

@@ -15,7 +15,7 @@ use Rattle.field.proofs.Sums.{sum_cong, sum_blocks, sum_scale_right}
 use Rattle.poly.specs.Inner.Linear.{entry, dot}
 use Rattle.poly.specs.Inner.Polynomials.{value}
 use Rattle.poly.specs.Inner.Interpolation.{interleaved, divided, Interpolated}
-use Rattle.poly.proofs.Messages.{tabulate, get_d_tabulate, vector_tabulate, vector_below}
+use Rattle.poly.proofs.Messages.{tabulate, get_or_tabulate, vector_tabulate, vector_below}
 use Rattle.poly.proofs.Values.{value_cong, value_swap}
 use Rattle.poly.proofs.Interleaving.{place_lt}
 use Rattle.poly.proofs.LagrangeSums.{lagrange_at, coefficients, coefficients_lt, coefficients_value}
@@ -77,7 +77,7 @@ module _ (q : ℕ) (columns word : List ℕ) (w : WordOver q columns word) where
   rows_at : (t j : ℕ) → t < length columns → j < q → interleaved q rows j t ≡ in_column t j
   unfolding rows
   rows_at t j l k =
-      get_d_tabulate (q * length columns) (λ p. in_column (p / q) (p % q)) (q * t + j) (place_lt q t j (length columns) k l)
+      get_or_tabulate (q * length columns) (λ p. in_column (p / q) (p % q)) (q * t + j) (place_lt q t j (length columns) k l)
       ∙ ap₂ in_column (quotient q pos t j k) (remainder q pos t j k)
 
   pub word_grid : List ℕ

@@ -21,7 +21,7 @@ use Rattle.poly.specs.Inner.Ranges.{Below, writes, part, Blocks}
 use Rattle.poly.specs.Inner.Linear.{entry}
 use Rattle.poly.specs.Inner.Rows.{scaled, stored}
 use Rattle.poly.proofs.Blocks.{blocks_more, blocks_at}
-use Rattle.poly.proofs.Lists.{get_d_map}
+use Rattle.poly.proofs.Lists.{get_or_map}
 use Rattle.poly.proofs.Multiples.{length_scaled, scaled_in, below_scaled}
 use Rattle.poly.proofs.Parts.{length_part}
 use Rattle.poly.proofs.Writes.{length_writes, writes_in, below_writes}
@@ -113,7 +113,7 @@ module _ (q x y : ℕ) (short : IsShort q) where
             let w = at_place (is_term q) (suc m) n l in
             get_or-set_other new (length entries) n s 0 (omega (arith, long))
             ∙ writes_in row (listed entries grid) (length entries) n (omega (arith, long)) (omega (arith, long))
-            ∙ ap (λ (t : List ℕ). listed t grid n) e ∙ ap (λ (i : ℕ). get_or grid i 0) (get_d_map (entry_of q) (weights q m) 0 0 n l)
+            ∙ ap (λ (t : List ℕ). listed t grid n) e ∙ ap (λ (i : ℕ). get_or grid i 0) (get_or_map (entry_of q) (weights q m) 0 0 n l)
             ∙ term_entry m grid h (get_or (weights q m) n 0) w.1 (omega (arith, w.0));
         side =
             ap (entry (set new (length entries) s)) (sym long)

@@ -22,7 +22,7 @@ pub record Opened : Type 0 where
   pub task : Task
   pub outcome : Outcome
 
--- "a refused opening hands back the job of an all_missing word at q = 2, m = 0"; "A refused opening names series 1" (T-11)
+-- "a refused opening hands back the job of an all-missing word at q = 2, m = 0"; "A refused opening names series 1" (T-11)
 unfoldable pub opened : ℕ → ℕ → ℕ → List ℕ → Opened
 opened q series m word =
     let outcome = open_checks q series m word in

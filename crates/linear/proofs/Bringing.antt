@@ -57,7 +57,7 @@ module _ (F : Field) (stride k : ℕ) (work row₀ row : List ℕ) (r : ℕ) (R 
         );
       }
 
--- an equation with the same coefficients and the same right_hand side does the same
+-- an equation with the same coefficients and the same right-hand side does the same
 module _ (F : Field) (stride k : ℕ) (work work' : List ℕ) (r s : ℕ → ℕ) (e : (j : ℕ) → j ≤ k → r j ≡ s j) where
   holds_same : (v : ℕ → ℕ) → Holds F k s v → Holds F k r v
   holds_same v h = dot_cong F k r s v (λ j l. e j (omega arith)) ∙ h ∙ sym (e k (omega arith))

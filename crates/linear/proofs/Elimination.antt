@@ -31,7 +31,7 @@ use Rattle.linear.proofs.Solutions.{solutions_by}
 abbrev pub Triangulated : Field → ℕ → ((ℕ → ℕ) → Type 0) → Type 0
 Triangulated F k P = ((S : System) × Triangular F k S × ((v : ℕ → ℕ) → P v ↔ Satisfies F k S v)) ⊎ ((v : ℕ → ℕ) → P v → ⊥)
 
--- the system with no row, and a system with the row r and its right_hand side b at p
+-- the system with no row, and a system with the row r and its right-hand side b at p
 abbrev no_row : System
 no_row = record { present = λ p. false; row = λ p j. 0; rhs = λ p. 0 }
 

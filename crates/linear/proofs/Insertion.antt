@@ -14,7 +14,7 @@ use Rattle.poly.proofs.Below.{count_insert}
 use Rattle.poly.proofs.Linear.{dot_cong}
 use Rattle.linear.proofs.Triangular.{Triangular}
 
--- S' is S with the row r and its right_hand side b at p, where S has none, in k unknowns
+-- S' is S with the row r and its right-hand side b at p, where S has none, in k unknowns
 pub record Insert (k : ℕ) (S S' : System) (p : ℕ) (r : ℕ → ℕ) (b : ℕ) : Type 0 where
   pub within : p < k
   pub was_absent : T (not (S.present p))

@@ -1,4 +1,4 @@
--- The turns of `reduce`: to take a row of a well_formed system out of an equation keeps `Reducing`.
+-- The turns of `reduce`: to take a row of a well-formed system out of an equation keeps `Reducing`.
 -- Assumes nothing.
 use mathlib.Core.Path.{◌≡◌, refl, sym, ap, ◌∙◌}
 use mathlib.Core.List.{List}
@@ -20,7 +20,7 @@ use Rattle.poly.proofs.Parts.{part_at}
 use Rattle.poly.proofs.Linear.{dot_cong, row_operation}
 use Rattle.linear.proofs.RowOperations.{length_added, added_at}
 
--- equations with the same coefficients and right_hand side hold together
+-- equations with the same coefficients and right-hand side hold together
 pub holds_cong : (F : Field) (k : ℕ) (r s v : ℕ → ℕ) → ((j : ℕ) → j ≤ k → r j ≡ s j) → Holds F k r v → Holds F k s v
 holds_cong F k r s v h e = sym (dot_cong F k r s v (λ j l. h j (omega arith))) ∙ e ∙ h k (omega arith)
 

@@ -14,7 +14,7 @@ use Rattle.poly.specs.Inner.Linear.{dot}
 use Rattle.linear.specs.Inner.Systems.{System, Satisfies, Full}
 use Rattle.poly.proofs.Linear.{dot_suc, dot_lt, dot_local, dot_extend}
 
--- a row that is present has 1 at its own unknown, 0 at each later one, and a symbol on its right_hand side
+-- a row that is present has 1 at its own unknown, 0 at each later one, and a symbol on its right-hand side
 pub record Triangular (F : Field) (k : ℕ) (S : System) : Type 0 where
   pub diagonal : (p : ℕ) → p < k → T (S.present p) → S.row p p ≡ 1
   pub after : (p j : ℕ) → p < j → j < k → T (S.present p) → S.row p j ≡ 0

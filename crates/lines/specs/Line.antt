@@ -5,7 +5,7 @@ use Rattle.code.specs.Answers.{Answer}
 use Rattle.code.specs.Recovered.{recovered}
 use Rattle.lines.specs.Text.{hex_digit, decimal, joined}
 
--- "the record's number in decimal .., a space, then `ok`, a space and 32 lower_case hexadecimal digits"
+-- "the record's number in decimal .., a space, then `ok`, a space and 32 lower-case hexadecimal digits"
 unfoldable pub ok_line : ℕ → List ℕ → List ℕ
 ok_line n message = decimal n ++ ((32 ∷ 111 ∷ 107 ∷ 32 ∷ []) ++ (map hex_digit message ++ (10 ∷ [])))
 

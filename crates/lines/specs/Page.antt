@@ -15,7 +15,7 @@ character value = cond (bad_value true 16 value) 63 (cond (eqb value 255) 46 (he
 unfoldable pub point_text : List ℕ → ℕ → ℕ → List ℕ
 point_text block x s = 32 ∷ hex_digit (get_or (ys_of 4 x) s 0) ∷ 61 ∷ character (get_or block (4 * x + s) 0) ∷ []
 
--- "x = i as one lower_case hexadecimal digit, a colon, and for each of its four points .."
+-- "x = i as one lower-case hexadecimal digit, a colon, and for each of its four points .."
 unfoldable pub column_line : List ℕ → ℕ → List ℕ
 column_line block x = (hex_digit x ∷ 58 ∷ []) ++ (joined (point_text block x) 4 ++ (10 ∷ []))
 
@@ -24,7 +24,7 @@ unfoldable pub several_text : ℕ → List ℕ
 several_text r = (115 ∷ 101 ∷ 118 ∷ 101 ∷ 114 ∷ 97 ∷ 108 ∷ 32 ∷ []) ++ decimal r
 
 -- "`ok`, `none`, or `several` ..": refusals 9 and 10; "a record with a bad value prints `bad` there": no other refusal is left
--- (`bad_exactly` of `proofs/Last_lines.antt`)
+-- (`bad_exactly` of `proofs/LastLines.antt`)
 unfoldable pub result_text : ℕ → ℕ → List ℕ
 result_text refusal r =
     cond (eqb refusal 0) (111 ∷ 107 ∷ [])

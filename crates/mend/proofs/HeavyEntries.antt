@@ -1,4 +1,4 @@
--- The equations of the entries, brought in one by one: the row of an entry, whose right_hand side is 0, so that it never contradicts; and the loop
+-- The equations of the entries, brought in one by one: the row of an entry, whose right-hand side is 0, so that it never contradicts; and the loop
 -- that brings in those of a weight above m + s.
 -- Assumes nothing.
 use mathlib.Core.List.{List}

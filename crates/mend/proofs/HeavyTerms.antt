@@ -17,7 +17,7 @@ use Rattle.poly.specs.Messages.{Vector}
 use Rattle.poly.specs.Inner.Polynomials.{value}
 use Rattle.poly.specs.Inner.Interpolation.{interleaved}
 use Rattle.poly.proofs.Linear.{dot_cong, dot_lt, dot_scale_row}
-use Rattle.poly.proofs.Messages.{tabulate, get_d_tabulate, vector_tabulate, vector_below}
+use Rattle.poly.proofs.Messages.{tabulate, get_or_tabulate, vector_tabulate, vector_below}
 use Rattle.poly.proofs.Values.{value_cong, value_sum, value_scale}
 use Rattle.poly.proofs.Interpolants.{at_column}
 use Rattle.poly.proofs.Interleaving.{place_lt}
@@ -70,7 +70,7 @@ module _ (q series m : ℕ) (word : List ℕ) (ok : Mendable q series m word) (s
 
   times_at : (p : ℕ) → p < q * q * q → get_or times_word p 0 ≡ F.times (symbol_at q series s f p) (get_or word p 0)
   unfolding times_word
-  times_at = get_d_tabulate (q * q * q) (λ p. F.times (symbol_at q series s f p) (get_or word p 0))
+  times_at = get_or_tabulate (q * q * q) (λ p. F.times (symbol_at q series s f p) (get_or word p 0))
 
   vector_times : Vector F.size (q * q * q) times_word
   unfolding times_word
@@ -82,7 +82,7 @@ module _ (q series m : ℕ) (word : List ℕ) (ok : Mendable q series m word) (s
 
   grid_at : (e : ℕ) → e < q * length columns → get_or grid_of e 0 ≡ entry_at e
   unfolding grid_of
-  grid_at = get_d_tabulate (q * length columns) entry_at
+  grid_at = get_or_tabulate (q * length columns) entry_at
 
   over : WordOver q columns times_word
   over =

@@ -18,7 +18,7 @@ use Rattle.poly.proofs.Multiples.{stored_all}
 use Rattle.poly.proofs.Parts.{length_part, put_is, length_put, part_put, part_before}
 use Rattle.poly.proofs.Writes.{length_writes}
 use Rattle.points.specs.Inner.Columns.{Columns}
-use Rattle.mend.specs.Inner.Products.{Takes, TimesX, times_yAt, product, block, Multiples, Products}
+use Rattle.mend.specs.Inner.Products.{Takes, TimesX, times_y_at, product, block, Multiples, Products}
 use Rattle.mend.proofs.ProductGrids.{product_x, product_y}
 
 -- the start of a block after the first i
@@ -105,13 +105,13 @@ module _ (q : ℕ) (columns : List ℕ) (over : Columns q columns) (all : length
   module _ (n : ℕ) (is_n : n ≡ q * length columns) (most : n ≤ 64) where
     pub producing_more : (word : List ℕ) (count : ℕ) (grids₀ grids grid r last : List ℕ) (j at : ℕ) → Producing word count grids₀ grids grid j at
         → at + 64 * count ≤ length grids → length last ≡ 64 * count → Multiples q columns grid last count
-        → r ≡ writes (replicate 64 0) n (λ e. times_yAt q grid (e / q) (e % q))
+        → r ≡ writes (replicate 64 0) n (λ e. times_y_at q grid (e / q) (e % q))
         → Producing word count grids₀ (put_mid at (at + 64 * count - at) grids last) r (j + 1) (at + 64 * count)
     producing_more word count grids₀ grids grid r last j at h fits last_long made is_r =
         record {
           is_at = ap (λ (k : ℕ). k + 64 * count) h.is_at ∙ next_start (64 * count) j;
           long = ap length new ∙ length_put grids at end last (omega arith) fits back ∙ h.long;
-          grid_long = ap length is_r ∙ length_writes (replicate 64 0) (λ e. times_yAt q grid (e / q) (e % q)) n ∙ length-replicate {A = ℕ} 64 0;
+          grid_long = ap length is_r ∙ length_writes (replicate 64 0) (λ e. times_y_at q grid (e / q) (e % q)) n ∙ length-replicate {A = ℕ} 64 0;
           next = product_y q columns over all word grid r n 0 j is_n most is_r h.next;
           done = record {
             at = λ k i a b. subst (λ (l : List ℕ). Takes q columns (product q columns word i k) (block (part l (64 * count * k)

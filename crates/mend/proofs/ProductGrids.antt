@@ -36,7 +36,7 @@ use Rattle.points.proofs.Places.{quotient, remainder}
 use Rattle.code.specs.Inner.Readable.{WordOver, grid_value, GridInFront}
 use Rattle.code.specs.Inner.Rows.{term_at}
 use Rattle.code.proofs.SymbolPowers.{power_size}
-use Rattle.mend.specs.Inner.Products.{x_at, y_at, Takes, TimesX, top, turned, times_yAt, product}
+use Rattle.mend.specs.Inner.Products.{x_at, y_at, Takes, TimesX, top, turned, times_y_at, product}
 
 at : (l : List ℕ) (i k : ℕ) → i ≡ k → get_or l i 0 ≡ get_or l k 0
 at l i k e = ap (λ (p : ℕ). get_or l p 0) e
@@ -132,7 +132,7 @@ module _ (q : ℕ) (columns : List ℕ) (over : Columns q columns) (all : length
     constant : (i : ℕ) → q * i ≡ q * i + 0
     constant i = omega arith
 
-    more_rows : (i j : ℕ) → times_yAt q grid i (suc (suc j)) ≡ get_or grid (q * i + suc j) 0
+    more_rows : (i j : ℕ) → times_y_at q grid i (suc (suc j)) ≡ get_or grid (q * i + suc j) 0
     more_rows i j = rw (ne_eqb (suc (suc j)) 0 (λ e. omega arith), ne_eqb (suc (suc j)) 1 (λ e. omega arith))
         (at grid (q * i + (suc (suc j) - 1)) (q * i + suc j) (omega arith))
 
@@ -140,7 +140,7 @@ module _ (q : ℕ) (columns : List ℕ) (over : Columns q columns) (all : length
     either true x y l k = l
     either false x y l k = k
 
-    times_y_lt : (i j : ℕ) → times_yAt q grid i j < F.size
+    times_y_lt : (i j : ℕ) → times_y_at q grid i j < F.size
     times_y_lt i j =
         either (eqb j 0) (turned q grid i) _
         (either (eqb i 0) 0 _ (zero_lt F)
@@ -151,18 +151,18 @@ module _ (q : ℕ) (columns : List ℕ) (over : Columns q columns) (all : length
         (F.plus_lt _ _ (symbols _) (symbols _)) (symbols _))
 
     module _ (n : ℕ) (r : List ℕ) (is_n : n ≡ q * length columns) (fits : n ≤ 64)
-        (is : r ≡ writes (replicate 64 0) n (λ e. times_yAt q grid (e / q) (e % q))) where
-      r_at : (i j : ℕ) → i < length columns → j < q → get_or r (q * i + j) 0 ≡ times_yAt q grid i j
+        (is : r ≡ writes (replicate 64 0) n (λ e. times_y_at q grid (e / q) (e % q))) where
+      r_at : (i j : ℕ) → i < length columns → j < q → get_or r (q * i + j) 0 ≡ times_y_at q grid i j
       r_at i j a b =
           ap (λ (l : List ℕ). get_or l (q * i + j) 0) is
-          ∙ writes_in (replicate 64 0) (λ e. times_yAt q grid (e / q) (e % q)) n (q * i + j) (omega (arith, place_lt q i j (length columns) b a))
+          ∙ writes_in (replicate 64 0) (λ e. times_y_at q grid (e / q) (e % q)) n (q * i + j) (omega (arith, place_lt q i j (length columns) b a))
           (omega (arith, length-replicate {A = ℕ} 64 0))
-          ∙ ap₂ (times_yAt q grid) (quotient q pos i j b) (remainder q pos i j b)
+          ∙ ap₂ (times_y_at q grid) (quotient q pos i j b) (remainder q pos i j b)
 
       r_symbols : Below F.size r
       r_symbols =
           rw is
-          (below_writes (replicate 64 0) (λ e. times_yAt q grid (e / q) (e % q)) F.size n (omega (arith, length-replicate {A = ℕ} 64 0))
+          (below_writes (replicate 64 0) (λ e. times_y_at q grid (e / q) (e % q)) F.size n (omega (arith, length-replicate {A = ℕ} 64 0))
           (below_zeros F.size 64 (zero_lt F)) (λ e l. times_y_lt (e / q) (e % q)))
 
       module _ (t : ℕ) (a : t < length columns) where
@@ -212,7 +212,7 @@ module _ (q : ℕ) (columns : List ℕ) (over : Columns q columns) (all : length
             (λ i l. other_rows i (omega arith))
 
   pub takes_times_y : (n : ℕ) (grid r : List ℕ) (f : ℕ → ℕ) → n ≡ q * length columns → n ≤ 64
-      → r ≡ writes (replicate 64 0) n (λ e. times_yAt q grid (e / q) (e % q)) → Takes q columns f grid
+      → r ≡ writes (replicate 64 0) n (λ e. times_y_at q grid (e / q) (e % q)) → Takes q columns f grid
       → Takes q columns (λ p. F.times (y_at q columns p) (f p)) r
   takes_times_y n grid r f is_n fits is h =
       record {
@@ -250,7 +250,7 @@ module _ (q : ℕ) (columns : List ℕ) (over : Columns q columns) (all : length
       (takes_times_x n grid r (product q columns word i j) is_n x h)
 
   pub product_y : (word grid r : List ℕ) (n i j : ℕ) → n ≡ q * length columns → n ≤ 64
-      → r ≡ writes (replicate 64 0) n (λ e. times_yAt q grid (e / q) (e % q)) → Takes q columns (product q columns word i j) grid
+      → r ≡ writes (replicate 64 0) n (λ e. times_y_at q grid (e / q) (e % q)) → Takes q columns (product q columns word i j) grid
       → Takes q columns (product q columns word i (j + 1)) r
   product_y word grid r n i j is_n fits is h =
       takes_cong (λ p. F.times (y_at q columns p) (product q columns word i j p)) (product q columns word i (j + 1)) r (λ p.

@@ -19,7 +19,7 @@ use Rattle.poly.specs.Inner.Interpolation.{interleaved}
 use Rattle.poly.specs.Inner.Ranges.{Below, part}
 use Rattle.poly.proofs.Interleaving.{place_lt}
 use Rattle.poly.proofs.Interpolants.{at_column}
-use Rattle.poly.proofs.Messages.{tabulate, get_d_tabulate, vector_below}
+use Rattle.poly.proofs.Messages.{tabulate, get_or_tabulate, vector_below}
 use Rattle.poly.proofs.Parts.{length_part, part_at}
 use Rattle.poly.proofs.Values.{value_cong}
 use Rattle.linear.specs.Inner.Systems.{flat, NonzeroSolved}
@@ -66,7 +66,7 @@ module _ (q series s count n : ℕ) (word starts grids : List ℕ) (h : Prepared
 
   products_at : (i p : ℕ) → p < q * q * q → get_or (products_of i) p 0 ≡ F.times (row_of q columns s p i) (get_or word p 0)
   unfolding products_of
-  products_at i = get_d_tabulate (q * q * q) (λ p. F.times (row_of q columns s p i) (get_or word p 0))
+  products_at i = get_or_tabulate (q * q * q) (λ p. F.times (row_of q columns s p i) (get_or word p 0))
 
   pub term_products : TermProducts q series s word products_of
   term_products = record { at = λ i p a b. products_at i p b }

@@ -10,7 +10,7 @@ use lib.ListN.{length, get_or}
 use Rattle.field.specs.Curve.{IsShort}
 use Rattle.field.proofs.Curves.{short_curve, short_sizes}
 use Rattle.poly.specs.Inner.Ranges.{writes}
-use Rattle.poly.proofs.Lists.{get_d_map}
+use Rattle.poly.proofs.Lists.{get_or_map}
 use Rattle.poly.proofs.Writes.{writes_in}
 use Rattle.points.proofs.Passing.{at_place}
 use Rattle.code.specs.Terms.{is_term, x_power, y_power, weights, size}
@@ -25,7 +25,7 @@ module _ (q : ℕ) (curve : IsShort q) (s n e i j : ℕ) (l : n < size q s) (is 
   w = get_or (weights q s) n 0
 
   of_weight : e ≡ entry_of q w
-  of_weight = is ∙ get_d_map (entry_of q) (weights q s) 0 0 n l
+  of_weight = is ∙ get_or_map (entry_of q) (weights q s) 0 0 n l
 
   term : is_term q w ≡ true
   term = (at_place (is_term q) (suc s) n l).1

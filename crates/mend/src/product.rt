@@ -5,7 +5,7 @@ ghost use Rattle.field.proofs.Fields.{field_of};
 ghost use Rattle.poly.specs.Inner.Linear.{entry};
 ghost use Rattle.poly.specs.Inner.Ranges.{Below, writes};
 ghost use Rattle.points.specs.Series.{columns_of};
-ghost use Rattle.mend.specs.Inner.Products.{TimesX, top, turned, times_yAt, Multiples, Products};
+ghost use Rattle.mend.specs.Inner.Products.{TimesX, top, turned, times_y_at, Multiples, Products};
 
 use code::{term, unencoding};
 use poly::rows;
@@ -53,7 +53,7 @@ fn turned(q: u8, grid: &[u8], i: usize) -> u8
 // The coefficient of x^i·y^j in y times the polynomial of a grid.
 fn times_y_at(q: u8, grid: &[u8], i: usize, j: usize) -> u8
     requires { IsShort q × (i < q * q) × (j < q) × (q * q * q ≤ length grid.now) }
-    ensures { result ≡ times_yAt q grid.now i j }
+    ensures { result ≡ times_y_at q grid.now i j }
 {
     let row = (q as usize) * i;
     if j == 0 {
@@ -68,7 +68,7 @@ fn times_y_at(q: u8, grid: &[u8], i: usize, j: usize) -> u8
 // y times the polynomial of a grid of n entries.
 fn times_y(q: u8, n: usize, grid: &[u8]) -> [u8; 64]
     requires { IsShort q × (n ≡ q * q * q) × (n ≤ length grid.now) }
-    ensures { result ≡ writes (replicate 64 0) n (λ e. times_yAt q grid.now (e / q) (e % q)) }
+    ensures { result ≡ writes (replicate 64 0) n (λ e. times_y_at q grid.now (e / q) (e % q)) }
 {
     let mut r = [0u8; 64];
     let mut e = 0;

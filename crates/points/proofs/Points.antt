@@ -16,7 +16,7 @@ use Rattle.field.specs.Power.{power}
 use Rattle.field.proofs.Fields.{field_of}
 use Rattle.field.proofs.Curves.{sizes}
 use Rattle.poly.specs.Lists.{Nodup}
-use Rattle.poly.proofs.Lists.{mem_get_or, get_d_map, nodup_map, nodup_flat_map, mem_flat_map, of_mem_flat_map}
+use Rattle.poly.proofs.Lists.{mem_get_or, get_or_map, nodup_map, nodup_flat_map, mem_flat_map, of_mem_flat_map}
 use Rattle.points.specs.Points.{on_curve, ys_of, points_on}
 use Rattle.points.specs.Inner.Columns.{Columns, column_y}
 use Rattle.points.proofs.Passing.{of_mem_passing, nodup_passing}
@@ -92,7 +92,7 @@ module _ (q : ℕ) where
         let e : q * 0 + s ≡ s = omega (arith, mul-zero q) in
         ap (λ (p : ℕ). get_or (column x ++ points_on q rest) p (0, 0)) e
         ∙ get_or-append (column x) (points_on q rest) (0, 0) s (omega arith)
-        ∙ get_d_map (λ y. (x, y)) (ys_of q x) 0 (0, 0) s (omega (arith, length_ys q curve x (small 0 (omega arith))))
+        ∙ get_or_map (λ y. (x, y)) (ys_of q x) 0 (0, 0) s (omega (arith, length_ys q curve x (small 0 (omega arith))))
     points_at (x ∷ rest) small (suc t) s k l =
         let e : q * suc t + s ≡ length (column x) + (q * t + s) = omega (arith, length_column x (small 0 (omega arith)), mul-suc q t) in
         ap (λ (p : ℕ). get_or (column x ++ points_on q rest) p (0, 0)) e

@@ -13,7 +13,7 @@ use Rattle.field.proofs.Plus.{plus_self, eq_of_plus_zero}
 use Rattle.poly.specs.Messages.{Vector, all}
 use Rattle.poly.specs.Inner.Linear.{entry, dot}
 use Rattle.poly.proofs.Lists.{find}
-use Rattle.poly.proofs.Messages.{mem_all, of_mem_all, tabulate, get_d_tabulate, vector_tabulate, vector_ext}
+use Rattle.poly.proofs.Messages.{mem_all, of_mem_all, tabulate, get_or_tabulate, vector_tabulate, vector_ext}
 use Rattle.poly.proofs.Linear.{dot_lt, dot_local, dot_plus_vector}
 use Rattle.poly.proofs.Dimension.{injective_le}
 
@@ -59,19 +59,19 @@ module _ (F : Field) (m n : ℕ) (row : ℕ → ℕ → ℕ) where
       → (v w : List ℕ) → Vector F.size n v → Vector F.size n w → values v ≡ values w → v ≡ w
   unfolding values form
   injective trivial v w hv hw e =
-      vector_ext F.size n v w hv hw (λ j l. eq_of_plus_zero (entry v j) (entry w j) (sym (get_d_tabulate n difference j l) ∙ nought j l))
+      vector_ext F.size n v w hv hw (λ j l. eq_of_plus_zero (entry v j) (entry w j) (sym (get_or_tabulate n difference j l) ∙ nought j l))
     where
       difference : ℕ → ℕ
       difference j = plus (entry v j) (entry w j)
 
       same : (i : ℕ) → i < m → form v i ≡ form w i
-      same i l = sym (get_d_tabulate m (form v) i l) ∙ ap (λ (u : List ℕ). entry u i) e ∙ get_d_tabulate m (form w) i l
+      same i l = sym (get_or_tabulate m (form v) i l) ∙ ap (λ (u : List ℕ). entry u i) e ∙ get_or_tabulate m (form w) i l
 
       nought : Zero n (entry (tabulate n difference))
       nought =
           trivial (tabulate n difference) (vector_tabulate F.size n difference (λ j l. F.plus_lt _ _ (hv.small j l) (hw.small j l)))
           (λ i l.
-          dot_local F n (row i) (entry (tabulate n difference)) difference (get_d_tabulate n difference)
+          dot_local F n (row i) (entry (tabulate n difference)) difference (get_or_tabulate n difference)
           ∙ dot_plus_vector F n (row i) (entry v) (entry w) ∙ ap (λ (x : ℕ). plus x (form w i)) (same i l) ∙ plus_self (form w i))
 
   -- MORE UNKNOWNS THAN EQUATIONS

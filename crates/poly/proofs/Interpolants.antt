@@ -18,7 +18,7 @@ use Rattle.poly.specs.Inner.Ranges.{Below}
 use Rattle.poly.specs.Inner.Polynomials.{value}
 use Rattle.poly.specs.Inner.Interpolation.{interleaved, row, bivariate, divided, Interpolated}
 use Rattle.poly.proofs.Lists.{each_mem}
-use Rattle.poly.proofs.Messages.{tabulate, get_d_tabulate, vector_tabulate, vector_below, below_vector}
+use Rattle.poly.proofs.Messages.{tabulate, get_or_tabulate, vector_tabulate, vector_below, below_vector}
 use Rattle.poly.proofs.Values.{value_cong, value_lt}
 use Rattle.poly.proofs.Roots.{value_unique, value_everywhere}
 use Rattle.poly.proofs.Interleaving.{place_lt, bivariate_interleaved}
@@ -80,7 +80,7 @@ module _ (F : Field) (d w : ℕ) (columns : List ℕ) where
   lagrange_interleaved rows j i k l =
       let down : (w * i + j) % w ≡ j = mul-add-mod_self_left w i j ∙ mod-eq_of_lt k in
       let along : (w * i + j) / w ≡ i = mul-add-div {m = w} (omega arith) i j ∙ ap (λ (n : ℕ). i + n) (div-eq_of_lt k) ∙ add-zero i in
-      get_d_tabulate (w * length columns) _ (w * i + j) (place_lt w i j (length columns) k l)
+      get_or_tabulate (w * length columns) _ (w * i + j) (place_lt w i j (length columns) k l)
       ∙ ap₂ (λ (u v : ℕ). coefficients F columns (divided F columns (interleaved d rows u)) v) down along
 
   pub lagrange_vector : (rows : List ℕ) → Vector F.size (w * length columns) (lagrange rows)

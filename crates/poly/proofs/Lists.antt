@@ -213,10 +213,10 @@ module _ {A B : Type 0} where
     nodup_map f xs (λ a b k l. inj a b (tail k) (tail l)) d.1,
   )
 
-  pub get_d_map : (f : A → B) (xs : List A) (d : A) (e : B) (i : ℕ) → i < length xs → get_or (map f xs) i e ≡ f (get_or xs i d)
-  get_d_map f [] d e i h = absurd (omega arith)
-  get_d_map f (x ∷ xs) d e zero h = refl
-  get_d_map f (x ∷ xs) d e (suc i) h = get_d_map f xs d e i (omega arith)
+  pub get_or_map : (f : A → B) (xs : List A) (d : A) (e : B) (i : ℕ) → i < length xs → get_or (map f xs) i e ≡ f (get_or xs i d)
+  get_or_map f [] d e i h = absurd (omega arith)
+  get_or_map f (x ∷ xs) d e zero h = refl
+  get_or_map f (x ∷ xs) d e (suc i) h = get_or_map f xs d e i (omega arith)
 
   pub map_set : (f : A → B) (xs : List A) (i : ℕ) (x : A) → map f (set xs i x) ≡ set (map f xs) i (f x)
   map_set f [] i x = refl

@@ -60,16 +60,16 @@ unfolding tabulate
 length_tabulate zero f = refl
 length_tabulate (suc n) f = length_snoc (tabulate n f) (f n) ∙ ap suc (length_tabulate n f)
 
-pub get_d_tabulate : (n : ℕ) (f : ℕ → ℕ) (i : ℕ) → i < n → get_or (tabulate n f) i 0 ≡ f i
+pub get_or_tabulate : (n : ℕ) (f : ℕ → ℕ) (i : ℕ) → i < n → get_or (tabulate n f) i 0 ≡ f i
 unfolding tabulate
-get_d_tabulate zero f i h = absurd (omega arith)
-get_d_tabulate (suc n) f i h = elim (ℕ_discrete i n) [
+get_or_tabulate zero f i h = absurd (omega arith)
+get_or_tabulate (suc n) f i h = elim (ℕ_discrete i n) [
   | yes e ↦ rw e (get_or_snoc_last (tabulate n f) (f n) n (length_tabulate n f))
-  | no d ↦ get_or_snoc (tabulate n f) (f n) i (omega (arith, length_tabulate n f)) ∙ get_d_tabulate n f i (omega arith)
+  | no d ↦ get_or_snoc (tabulate n f) (f n) i (omega (arith, length_tabulate n f)) ∙ get_or_tabulate n f i (omega arith)
 ]
 
 pub vector_tabulate : (q n : ℕ) (f : ℕ → ℕ) → ((i : ℕ) → i < n → f i < q) → Vector q n (tabulate n f)
-vector_tabulate q n f h = record { len = length_tabulate n f; small = λ i l. rw (get_d_tabulate n f i l) (h i l) }
+vector_tabulate q n f h = record { len = length_tabulate n f; small = λ i l. rw (get_or_tabulate n f i l) (h i l) }
 
 -- a vector's numbers are below the bound past its end, too
 pub vector_below : (q k : ℕ) (v : List ℕ) → 0 < q → Vector q k v → Below q v

@@ -11,7 +11,7 @@ use native.Mathlib.Omega.{arith}
 use lib.ListN.{length, get_or, set, length-set, length-map}
 use lib.Seq.{ext_get_or, get_or-set_same, get_or-set_other}
 use Rattle.poly.specs.Inner.Ranges.{Below, writes}
-use Rattle.poly.proofs.Lists.{get_d_map}
+use Rattle.poly.proofs.Lists.{get_or_map}
 
 module _ (l : List ℕ) (f : ℕ → ℕ) where
   pub length_writes : (n : ℕ) → length (writes l n f) ≡ length l
@@ -68,4 +68,4 @@ writes_map f l =
     ext_get_or 0 (writes l (length l) g) (map f l) (length_writes l g (length l) ∙ sym (length-map l f))
     (λ t b.
     let k : t < length l = omega (arith, length_writes l g (length l)) in
-    writes_in l g (length l) t k (omega arith) ∙ sym (get_d_map f l 0 0 t k))
+    writes_in l g (length l) t k (omega arith) ∙ sym (get_or_map f l 0 0 t k))

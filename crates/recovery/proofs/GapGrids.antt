@@ -23,7 +23,7 @@ use Rattle.poly.specs.Sets.{ListOf}
 use Rattle.poly.specs.Inner.Linear.{entry, dot}
 use Rattle.poly.specs.Inner.Polynomials.{value}
 use Rattle.poly.proofs.Lists.{mem_get_or, get_or_mem, nodup_get_or, one_if_le}
-use Rattle.poly.proofs.Messages.{tabulate, length_tabulate, get_d_tabulate, vector_tabulate, vector_below, vector_ext, mem_all, of_mem_all, nodup_all}
+use Rattle.poly.proofs.Messages.{tabulate, length_tabulate, get_or_tabulate, vector_tabulate, vector_below, vector_ext, mem_all, of_mem_all, nodup_all}
 use Rattle.poly.proofs.Values.{value_cong}
 use Rattle.poly.proofs.Linear.{dot_lt, dot_local}
 use Rattle.poly.proofs.Interleaving.{place_lt}
@@ -138,12 +138,12 @@ module _ (q : ℕ) (columns : List ℕ) (m : ℕ) (broken : List ℕ) (h : Broke
               value_cong (field_of q) q (λ j. value (field_of q) (length columns) (λ i. get_or (grid_with u) (q * i + j) 0) x)
               (λ j. value (field_of q) (length columns) (λ i. together u (q * i + j)) x) (column_y q columns t s)
               (λ j l. value_cong (field_of q) (length columns) (λ i. get_or (grid_with u) (q * i + j) 0) (λ i. together u (q * i + j)) x
-              (λ i k. get_d_tabulate (q * length columns) (together u) (q * i + j) (place_lt q i j (length columns) l k)))
+              (λ i k. get_or_tabulate (q * length columns) (together u) (q * i + j) (place_lt q i j (length columns) l k)))
               ∙ grid_combined q columns (length gaps) S u t s
               ∙ ap₂ plus (grids.added t s a b)
               (dot_local (field_of q) (length gaps) u (λ p. grid_at q columns (S.vector p) t s) (λ p. one_if (eqb (q * t + s) (entry gaps p)))
               (λ p l. grids.vectors p t s l a b))
-              ∙ sym (get_d_tabulate (q * length columns) (filled u) (q * t + s) (place_lt q t s (length columns) b a));
+              ∙ sym (get_or_tabulate (q * length columns) (filled u) (q * t + s) (place_lt q t s (length columns) b a));
         }
 
     -- no heavy term, as a test of the grid
@@ -152,13 +152,13 @@ module _ (q : ℕ) (columns : List ℕ) (m : ℕ) (broken : List ℕ) (h : Broke
         within_of q m (grid_with u) (length (grid_with u))
         (λ e l w.
         let k : e < q * length columns = omega (arith, length_tabulate (q * length columns) (together u)) in
-        get_d_tabulate (q * length columns) (together u) e k ∙ z.at e k (lt→ltb m (weight_of q e) w))
+        get_or_tabulate (q * length columns) (together u) e k ∙ z.at e k (lt→ltb m (weight_of q e) w))
 
     from_within : (u : ℕ → ℕ) → order_at_most q m (length (grid_with u)) (grid_with u) ≡ true → ZeroOn (heavy q m) (q * length columns) (together u)
     from_within u e =
         record {
           at = λ i l w.
-              sym (get_d_tabulate (q * length columns) (together u) i l)
+              sym (get_or_tabulate (q * length columns) (together u) i l)
               ∙ of_within q m (grid_with u) (length (grid_with u)) e i (omega (arith, length_tabulate (q * length columns) (together u)))
               (ltb→lt m (weight_of q i) w);
         }
@@ -178,7 +178,7 @@ module _ (q : ℕ) (columns : List ℕ) (m : ℕ) (broken : List ℕ) (h : Broke
             vector = (has_word q columns (filled_word u) (filled_over u) m h.order (grid_with u) (filled_grid u) (to_within u z)).vector;
             fits = record {
               at = λ p l d.
-                  ap (λ (w : List ℕ). get_or w p 0) has_filled ∙ get_d_tabulate (q * length columns) (filled u) p (omega (arith, h.long))
+                  ap (λ (w : List ℕ). get_or w p 0) has_filled ∙ get_or_tabulate (q * length columns) (filled u) p (omega (arith, h.long))
                   ∙ filled_known u p l d;
             };
           }
@@ -208,7 +208,7 @@ module _ (q : ℕ) (columns : List ℕ) (m : ℕ) (broken : List ℕ) (h : Broke
             let j = w.0 in
             rw (← w.2)
             (filled_gap (entry (at_gaps v)) j w.1 ((gaps_vector v).small j w.1)
-            ∙ get_d_tabulate (length gaps) (λ j. get_or (word_of q columns m v) (entry gaps j) 0) j w.1)
+            ∙ get_or_tabulate (length gaps) (λ j. get_or (word_of q columns m v) (entry gaps j) 0) j w.1)
       ]
 
       filled_is : filled_word (entry (at_gaps v)) ≡ word_of q columns m v
@@ -218,7 +218,7 @@ module _ (q : ℕ) (columns : List ℕ) (m : ℕ) (broken : List ℕ) (h : Broke
           (length_tabulate (q * length columns) (filled (entry (at_gaps v))) ∙ sym long)
           (λ p l.
           let k : p < q * length columns = omega (arith, length_tabulate (q * length columns) (filled (entry (at_gaps v)))) in
-          get_d_tabulate (q * length columns) (filled (entry (at_gaps v))) p k ∙ same_at p (omega (arith, h.long)))
+          get_or_tabulate (q * length columns) (filled (entry (at_gaps v))) p k ∙ same_at p (omega (arith, h.long)))
 
       fits_filled : Fitting (q * q) (size q m) (word_of q columns m) (filled_word (entry (at_gaps v))) v
       fits_filled = record { vector = fit.vector; fits = record { at = λ p l d. ap (λ (w : List ℕ). get_or w p 0) (sym filled_is) } }
@@ -242,9 +242,9 @@ module _ (q : ℕ) (columns : List ℕ) (m : ℕ) (broken : List ℕ) (h : Broke
         vector_ext (field_of q).size (length gaps) (at_gaps v) u (gaps_vector v) vector
         (λ j b.
         let k : entry gaps j < q * length columns = omega (arith, h.long, gap_within j b) in
-        get_d_tabulate (length gaps) (λ j. get_or (word_of q columns m v) (entry gaps j) 0) j b
+        get_or_tabulate (length gaps) (λ j. get_or (word_of q columns m v) (entry gaps j) 0) j b
         ∙ ap (λ (w : List ℕ). get_or w (entry gaps j) 0) (has_filled (entry u) z)
-        ∙ get_d_tabulate (q * length columns) (filled (entry u)) (entry gaps j) k ∙ filled_gap (entry u) j b (vector.small j b))
+        ∙ get_or_tabulate (q * length columns) (filled (entry u)) (entry gaps j) k ∙ filled_gap (entry u) j b (vector.small j b))
 
     -- THE NUMBER OF MESSAGES THAT FIT
     pub fitting_solutions : count (fits (word_of q columns m) broken) (all (q * q) (size q m))

@@ -15,7 +15,7 @@ use Rattle.poly.specs.Lists.{count}
 use Rattle.poly.specs.Messages.{all}
 use Rattle.poly.specs.Sets.{ListOf}
 use Rattle.poly.specs.Inner.Linear.{entry}
-use Rattle.poly.proofs.Messages.{get_d_tabulate}
+use Rattle.poly.proofs.Messages.{get_or_tabulate}
 use Rattle.linear.specs.Inner.Combinations.{Family, combined, ZeroOn, solutions, Padded, Eliminated}
 use Rattle.linear.proofs.Combinations.{zero_wider, zero_narrower, solutions_wider}
 use Rattle.linear.proofs.Pivots.{solutions_all, solutions_no, combined_left, solution}
@@ -92,7 +92,7 @@ module _ (q : ℕ) (columns : List ℕ) (m : ℕ) (broken : List ℕ) (h : Broke
     same_message u z =
         let f = combined (field_of q) (length gaps) S u in
         gather_same q m (q * length columns) (grid_with q columns m broken h gaps listed S grids u) grid h.order
-        (λ i l. get_d_tabulate (q * length columns) f i l
+        (λ i l. get_or_tabulate (q * length columns) f i l
         ∙ combined_left (field_of q) (heavy q m) room (length gaps) S t r left ended done full u z i (omega (arith, pad.within)) ∙ sym (is i l))
 
     pub gaps_message : Light → reading (field_of q).size (size q m) (word_of q columns m) broken ≡ message (gather q m grid)

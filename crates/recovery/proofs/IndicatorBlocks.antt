@@ -115,7 +115,7 @@ module _ (q c count : ℕ) (last grid₀ : List ℕ) where
     pub blocks_turn : (block new : List ℕ) → block ≡ lanes (λ t. (field_of q).times (entry last t) factor)
         → new ≡ stored 16 block (part grid (16 * (b - 1)) (16 * b))
         → BlocksFrom q c count last grid₀ (put_mid (16 * (b - 1)) (16 * b - 16 * (b - 1)) grid new) ((field_of q).times c factor) (b - 1)
-    blocks_turn block new is_Block is_new =
+    blocks_turn block new is_block is_new =
         record {
           within = omega (arith, h.within);
           long = ap length back ∙ length_put grid from to new w.0 w.1 new_long ∙ h.long;
@@ -145,7 +145,7 @@ module _ (q c count : ℕ) (last grid₀ : List ℕ) where
         new_at t k =
             ap (λ (x : List ℕ). entry x t) is_new
             ∙ stored_in 16 block (part grid from to) t k (omega (arith, w.2))
-            ∙ ap (λ (x : List ℕ). entry x t) is_Block
+            ∙ ap (λ (x : List ℕ). entry x t) is_block
             ∙ lanes_at (λ t. (field_of q).times (entry last t) factor) t k
 
         new_below : Below (field_of q).size new

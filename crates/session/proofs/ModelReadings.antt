@@ -9,7 +9,7 @@ use lib.ListN.{length, get_or, length-map}
 use Rattle.field.specs.Curve.{IsCurve}
 use Rattle.field.proofs.Curves.{sizes, two_symbols}
 use Rattle.poly.specs.Sets.{ListOf, Alone, TwoOrMore, Exactly}
-use Rattle.poly.proofs.Lists.{get_d_map}
+use Rattle.poly.proofs.Lists.{get_or_map}
 use Rattle.poly.proofs.Sets.{list_iff}
 use Rattle.linear.proofs.Elimination.{PowerOrNone}
 use Rattle.points.specs.Series.{columns_of}
@@ -33,7 +33,7 @@ module _ (q series m : ℕ) (curve : IsCurve q) (model : Model) (len : length mo
   broken = map received_value model
 
   at_place : (p : ℕ) → p < length model → (o : Place) → get_or model p missing ≡ o → get_or broken p 0 ≡ received_value o
-  at_place p l o e = get_d_map received_value model missing 0 p l ∙ ap received_value e
+  at_place p l o e = get_or_map received_value model missing 0 p l ∙ ap received_value e
 
   fits_iff : (v : List ℕ) → Fitting (q * q) (size q m) word broken v ↔ FitsModel q series m model v
   fits_iff v = (

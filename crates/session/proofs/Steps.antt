@@ -17,7 +17,7 @@ use Rattle.field.specs.Outcomes.{number}
 use Rattle.field.specs.declared.outcome.Outcome.{Outcome}
 use Rattle.field.specs.declared.outcome.Outcome.TheVariants.{Done, BadPlace, BadSymbol}
 use Rattle.field.proofs.Curves.{short_sizes, short_of_true}
-use Rattle.poly.proofs.Lists.{get_d_map, map_set}
+use Rattle.poly.proofs.Lists.{get_or_map, map_set}
 use Rattle.points.specs.Series.{is_series}
 use Rattle.code.specs.Checks.{order_checks, bad_value, first_bad, value_check}
 use Rattle.code.proofs.Checks.{order_done, good_symbol, good_gap, value_good}
@@ -149,7 +149,7 @@ module _ (n : ℕ) (f : Place → ℕ) where
   module _ (bytes : List ℕ) (model : Model) (h : Copies n f bytes model) (p : ℕ) (l : p < n) where
     copies_at : p < length model → get_or bytes p 0 ≡ f (get_or model p missing)
     copies_at k =
-        sym (get_or-take n bytes p 0 l) ∙ ap (λ (v : List ℕ). get_or v p 0) h.same ∙ get_d_map f model missing 0 p k
+        sym (get_or-take n bytes p 0 l) ∙ ap (λ (v : List ℕ). get_or v p 0) h.same ∙ get_or_map f model missing 0 p k
 
     copies_set : (o : Place) → Copies n f (set bytes p (f o)) (set model p o)
     copies_set o =

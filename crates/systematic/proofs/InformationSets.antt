@@ -21,9 +21,9 @@ use Rattle.poly.specs.Messages.{Vector, all}
 use Rattle.poly.specs.Sets.{Alone}
 use Rattle.poly.specs.Inner.Linear.{entry}
 use Rattle.poly.proofs.Bools.{implies, implied}
-use Rattle.poly.proofs.Lists.{find, mem_get_or, get_or_mem, get_d_map, nodup_map, pigeonhole}
+use Rattle.poly.proofs.Lists.{find, mem_get_or, get_or_mem, get_or_map, nodup_map, pigeonhole}
 use Rattle.poly.proofs.Linear.{dot_lt, dot_local, dot_plus_vector}
-use Rattle.poly.proofs.Messages.{mem_all, of_mem_all, nodup_all, tabulate, get_d_tabulate, vector_tabulate, vector_ext}
+use Rattle.poly.proofs.Messages.{mem_all, of_mem_all, nodup_all, tabulate, get_or_tabulate, vector_tabulate, vector_ext}
 use Rattle.points.specs.Passing.{up_to}
 use Rattle.points.specs.Inner.Columns.{Columns}
 use Rattle.points.proofs.ColumnPoints.{length_up_to}
@@ -76,7 +76,7 @@ length_symbols places word = length-map places (λ p. get_or word p 0)
 
 pub symbols_at_lem : (places word : List ℕ) (i : ℕ) → i < length places → get_or (symbols_at places word) i 0 ≡ get_or word (get_or places i 0) 0
 unfolding symbols_at
-symbols_at_lem places word i l = get_d_map (λ p. get_or word p 0) places 0 0 i l
+symbols_at_lem places word i l = get_or_map (λ p. get_or word p 0) places 0 0 i l
 
 -- two words have the same symbols where they agree at the places
 pub symbols_same : (places a b : List ℕ) → ((i : ℕ) → i < length places → get_or a (get_or places i 0) 0 ≡ get_or b (get_or places i 0) 0)
@@ -109,7 +109,7 @@ module _ (q : ℕ) (columns : List ℕ) (over : Columns q columns) (m : ℕ) whe
 
   add_at : (v w : List ℕ) (i : ℕ) → i < size q m → get_or (add v w) i 0 ≡ plus (get_or v i 0) (get_or w i 0)
   unfolding add
-  add_at v w = get_d_tabulate (size q m) (λ i. plus (get_or v i 0) (get_or w i 0))
+  add_at v w = get_or_tabulate (size q m) (λ i. plus (get_or v i 0) (get_or w i 0))
 
   pub add_message : (v w : List ℕ) → Message v → Message w → Message (add v w)
   unfolding add

@@ -21,7 +21,7 @@ use Rattle.poly.specs.Inner.Linear.{entry}
 use Rattle.poly.specs.Inner.Rows.{stored}
 use Rattle.poly.proofs.Blocks.{blocks_none, blocks_more, block_start, block_fits}
 use Rattle.poly.proofs.Entries.{below_set}
-use Rattle.poly.proofs.Lists.{get_d_map}
+use Rattle.poly.proofs.Lists.{get_or_map}
 use Rattle.poly.proofs.Multiples.{length_stored, stored_in, stored_all, below_stored}
 use Rattle.poly.proofs.Parts.{length_part, part_at, below_part, put_is, length_put, put_low, put_in, below_back}
 use Rattle.poly.proofs.Writes.{length_writes, writes_in, below_writes}
@@ -153,7 +153,7 @@ pub record PointsBelow (q : ℕ) (columns xs₀ ys₀ xs ys : List ℕ) (p : ℕ
   pub xs_symbols : Below (field_of q).size xs
   pub ys_symbols : Below (field_of q).size ys
   pub x_at : (i : ℕ) → i < p → entry xs i ≡ get_or columns (i / q) 0
-  pub y_at_lem : (i : ℕ) → i < p → entry ys i ≡ column_y q columns (i / q) (i % q)
+  pub y_at : (i : ℕ) → i < p → entry ys i ≡ column_y q columns (i / q) (i % q)
 
 -- a list of which the numbers below p are given, and one more
 set_more : (f : ℕ → ℕ) (l : List ℕ) (p v : ℕ) → ((i : ℕ) → i < p → entry l i ≡ f i) → p < length l → v ≡ f p
@@ -172,7 +172,7 @@ module _ (q : ℕ) (columns xs₀ ys₀ : List ℕ) where
         xs_symbols = a;
         ys_symbols = b;
         x_at = λ i l. absurd (omega arith);
-        y_at_lem = λ i l. absurd (omega arith);
+        y_at = λ i l. absurd (omega arith);
       }
 
   pub points_more : (xs ys : List ℕ) (p : ℕ) → PointsBelow q columns xs₀ ys₀ xs ys p → p < length xs₀ → p < length ys₀ → (x y : ℕ)
@@ -185,7 +185,7 @@ module _ (q : ℕ) (columns xs₀ ys₀ : List ℕ) where
         xs_symbols = below_set (field_of q).size xs p x h.xs_symbols sx;
         ys_symbols = below_set (field_of q).size ys p y h.ys_symbols sy;
         x_at = set_more (λ i. get_or columns (i / q) 0) xs p x h.x_at (omega (arith, h.xs_long)) is_x;
-        y_at_lem = set_more (λ i. column_y q columns (i / q) (i % q)) ys p y h.y_at_lem (omega (arith, h.ys_long)) is_y;
+        y_at = set_more (λ i. column_y q columns (i / q) (i % q)) ys p y h.y_at (omega (arith, h.ys_long)) is_y;
       }
 
   pub points_all : (xs ys : List ℕ) (p : ℕ) → PointsBelow q columns xs₀ ys₀ xs ys p → q * length columns ≤ p → PointLists q columns xs ys
@@ -194,7 +194,7 @@ module _ (q : ℕ) (columns xs₀ ys₀ : List ℕ) where
         xs_symbols = h.xs_symbols;
         ys_symbols = h.ys_symbols;
         x_at = λ i k. h.x_at i (omega arith);
-        y_at_lem = λ i k. h.y_at_lem i (omega arith);
+        y_at = λ i k. h.y_at i (omega arith);
       }
 
 -- ---- the products
@@ -353,7 +353,7 @@ words_written q short m k i xs ys xpowers ypowers vectors is_k is_i columns room
     each t p a b =
         let w : ℕ = get_or (weights q m) t 0 in
         let e : ℕ = get_or (entries_of q m) t 0 in
-        let is_e : e ≡ entry_of q w = get_d_map (entry_of q) (weights q m) 0 0 t a in
+        let is_e : e ≡ entry_of q w = get_or_map (entry_of q) (weights q m) 0 0 t a in
         let term = (at_place (is_term q) (suc m) t a).1 in
         let few : p < 64 = omega arith in
         let row : e / q < i + 1 = omega (arith, is_i, entry_row q pos m t a) in
@@ -361,4 +361,4 @@ words_written q short m k i xs ys xpowers ypowers vectors is_k is_i columns room
         ∙ (field_of q).times_comm _ _
         ∙ ap₂ (field_of q).times
         (x.at.at (e / q) p row few ∙ ap₂ (power (field_of q)) (points.x_at p b) (ap (λ (n : ℕ). n / q) is_e ∙ entry_x q pos w term))
-        (y.at.at (e % q) p (mod-lt e pos) few ∙ ap₂ (power (field_of q)) (points.y_at_lem p b) (ap (λ (n : ℕ). n % q) is_e ∙ entry_y q pos w term))
+        (y.at.at (e % q) p (mod-lt e pos) few ∙ ap₂ (power (field_of q)) (points.y_at p b) (ap (λ (n : ℕ). n % q) is_e ∙ entry_y q pos w term))

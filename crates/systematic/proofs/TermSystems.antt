@@ -97,7 +97,7 @@ known_present broken p d = rw (ne_eqb (entry broken p) 255 d)
 
 module _ (q : ℕ) (columns : List ℕ) (m : ℕ) (broken : List ℕ) (h : BrokenOver q columns m broken) (few : length broken ≤ 64)
     (vectors added high : List ℕ) (words : TermWords q columns m vectors)
-    (is_Known : (p : ℕ) → p < length broken → entry added p ≡ known broken p)
+    (is_known : (p : ℕ) → p < length broken → entry added p ≡ known broken p)
     (inside : (p : ℕ) → p < length broken → marked high p ≡ present broken p)
     (outside : (p : ℕ) → length broken ≤ p → marked high p ≡ false) where
   abbrev F : Field
@@ -117,7 +117,7 @@ module _ (q : ℕ) (columns : List ℕ) (m : ℕ) (broken : List ℕ) (h : Broke
   unfolding combined
   left_by u p l =
       let pl : p < q * length columns = omega (arith, h.long) in
-      ap₂ plus (is_Known p l)
+      ap₂ plus (is_known p l)
       (dot_comm F k (entry u) (λ t. S.vector t p)
       ∙ dot_cong F k (λ t. S.vector t p) (row_of q columns m p) (entry u)
       (λ t b. let z : 0 + t ≡ t = omega arith in rw z (words.at t p b pl))
@@ -243,7 +243,7 @@ module _ (q : ℕ) (columns : List ℕ) (m : ℕ) (broken : List ℕ) (h : Broke
 
 -- what was known, and what is left of it, make the word
 module _ (q : ℕ) (columns : List ℕ) (m : ℕ) (broken v known₀ left out₀ : List ℕ) (h : BrokenOver q columns m broken)
-    (room : length out₀ ≡ length broken) (is_Known : (p : ℕ) → p < length broken → entry known₀ p ≡ known broken p)
+    (room : length out₀ ≡ length broken) (is_known : (p : ℕ) → p < length broken → entry known₀ p ≡ known broken p)
     (is_left : (p : ℕ) → p < q * length columns → entry left p ≡ plus (known broken p) (get_or (word_of q columns m v) p 0)) where
   pub word_written : (copy out : List ℕ) → copy ≡ stored (length broken) known₀ out₀ → out ≡ summed (length broken) left copy → out ≡ word_of q columns m v
   unfolding stored summed
@@ -257,7 +257,7 @@ module _ (q : ℕ) (columns : List ℕ) (m : ℕ) (broken v known₀ left out₀
       let b : p < n = omega (arith, wide, copied, room) in
       ap (λ (x : List ℕ). get_or x p 0) is_out ∙ writes_in copy (λ j. plus (entry copy j) (entry left j)) n p b (omega (arith, copied, room))
       ∙ ap₂ plus
-      (ap (λ (x : List ℕ). get_or x p 0) is_copy ∙ writes_in out₀ (entry known₀) n p b (omega (arith, room)) ∙ is_Known p b)
+      (ap (λ (x : List ℕ). get_or x p 0) is_copy ∙ writes_in out₀ (entry known₀) n p b (omega (arith, room)) ∙ is_known p b)
       (is_left p (omega (arith, h.long)))
       ∙ plus_cancel (known broken p) (get_or (word_of q columns m v) p 0))
 

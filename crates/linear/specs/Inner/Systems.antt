@@ -7,13 +7,13 @@ use Rattle.poly.specs.Inner.Linear.{entry, dot, Holds}
 use Rattle.linear.specs.declared.system.Effect.{Effect}
 use Rattle.linear.specs.declared.system.Effect.TheVariants.{Pivot, Redundant, Contradiction}
 
--- rows of coefficients, each with a right_hand side; only those that are present count
+-- rows of coefficients, each with a right-hand side; only those that are present count
 pub record System : Type 0 where
   pub present : ℕ → Bool
   pub row : ℕ → ℕ → ℕ
   pub rhs : ℕ → ℕ
 
--- the system in a flat list: row p stands from p * stride on, its right_hand side at k, and it is present when its entry p is 1
+-- the system in a flat list: row p stands from p * stride on, its right-hand side at k, and it is present when its entry p is 1
 abbrev pub flat : ℕ → ℕ → List ℕ → System
 flat stride k work =
     record {
@@ -42,7 +42,7 @@ pub record WellFormed (F : Field) (stride k : ℕ) (work : List ℕ) : Type 0 wh
   pub diagonal : (p : ℕ) → p < k → ((flat stride k work).row p p ≡ 0) ⊎ ((flat stride k work).row p p ≡ 1)
   pub triangle : (p j : ℕ) → p < j → j < k → T ((flat stride k work).present p) → (flat stride k work).row p j ≡ 0
 
--- row has k coefficients and, at k, a right_hand side
+-- row has k coefficients and, at k, a right-hand side
 pub record Equation (F : Field) (k : ℕ) (row : List ℕ) : Type 0 where
   pub long : k < length row
   pub symbols : (j : ℕ) → j ≤ k → entry row j < F.size

@@ -78,7 +78,7 @@ pub record HoldsHeavy (q m s stride : ℕ) (grids : ℕ → List ℕ) (work : Li
   pub formed : WellFormed (field_of q) stride (size q s) work
   pub same : (v : ℕ → ℕ) → NoHeavy q m s grids n v ↔ Satisfies (field_of q) (size q s) (flat stride (size q s) work) v
 
--- work' holds the equations of work, and one more, with the coefficients r and the right_hand side 0
+-- work' holds the equations of work, and one more, with the coefficients r and the right-hand side 0
 pub record HoldsMore (q stride k : ℕ) (work : List ℕ) (r : ℕ → ℕ) (work' : List ℕ) : Type 0 where
   pub both : (v : ℕ → ℕ) → (Satisfies (field_of q) k (flat stride k work) v × (dot (field_of q) k r v ≡ 0))
       ↔ Satisfies (field_of q) k (flat stride k work') v

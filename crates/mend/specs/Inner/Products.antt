@@ -40,8 +40,8 @@ turned q grid i =
     (cond (eqb i (q + 1)) (plus (top q grid 0) (top q grid (q * q - 1))) (top q grid (i - (q + 1)))))
 
 -- the coefficient of x^i·y^j in y times the polynomial of a grid, y^q being x^(q + 1) + y
-abbrev pub times_yAt : ℕ → List ℕ → ℕ → ℕ → ℕ
-times_yAt q grid i j =
+abbrev pub times_y_at : ℕ → List ℕ → ℕ → ℕ → ℕ
+times_y_at q grid i j =
     cond (eqb j 0) (turned q grid i) (cond (eqb j 1) (plus (get_or grid (q * i) 0) (top q grid i)) (get_or grid (q * i + (j - 1)) 0))
 
 -- x^i·y^j times the word, at place p

@@ -11,6 +11,6 @@ entry l j = get_or l j 0
 unfoldable pub dot : Field → ℕ → (ℕ → ℕ) → (ℕ → ℕ) → ℕ
 dot F n r v = sum n (λ j. F.times (r j) (v j))
 
--- v meets the equation with the coefficients r 0, .., r (k - 1) and the right_hand side r k
+-- v meets the equation with the coefficients r 0, .., r (k - 1) and the right-hand side r k
 abbrev pub Holds : Field → ℕ → (ℕ → ℕ) → (ℕ → ℕ) → Type 0
 Holds F k r v = dot F k r v ≡ r k

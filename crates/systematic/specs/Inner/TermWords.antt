@@ -19,7 +19,7 @@ pub record PointLists (q : ℕ) (columns xs ys : List ℕ) : Type 0 where
   pub xs_symbols : Below (field_of q).size xs
   pub ys_symbols : Below (field_of q).size ys
   pub x_at : (p : ℕ) → p < q * length columns → entry xs p ≡ get_or columns (p / q) 0
-  pub y_at_lem : (p : ℕ) → p < q * length columns → entry ys p ≡ column_y q columns (p / q) (p % q)
+  pub y_at : (p : ℕ) → p < q * length columns → entry ys p ≡ column_y q columns (p / q) (p % q)
 
 -- row t has the word of term t
 pub record TermWords (q : ℕ) (columns : List ℕ) (m : ℕ) (vectors : List ℕ) : Type 0 where

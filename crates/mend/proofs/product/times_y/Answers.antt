@@ -3,7 +3,7 @@ use mathlib.Core.Path.{refl, ap₂, ◌∙◌}
 use native.Mathlib.Omega.{arith}
 use Rattle.poly.specs.Inner.Ranges.{writes}
 use Rattle.poly.proofs.Writes.{writes_turn}
-use Rattle.mend.specs.Inner.Products.{times_yAt}
+use Rattle.mend.specs.Inner.Products.{times_y_at}
 use Rattle.mend.proofs.product.times_y.Goals as goal
 
 pub loop-e-init : goal.loop-e-init
@@ -16,5 +16,5 @@ loop-e-preserved c =
     let d = c.divide-d.ensures in (
       omega arith,
       writes_turn _ _ l.r l.e _ l.invariant.1
-          (c.times_y_at.ensures ∙ ap₂ (times_yAt c.args.q c.args.grid.now) d.0 d.1),
+          (c.times_y_at.ensures ∙ ap₂ (times_y_at c.args.q c.args.grid.now) d.0 d.1),
     )

@@ -1,5 +1,5 @@
-//! Links the calls that only the benchmark makes, which `rt staticlib bench_job`
-//! writes. The library itself is linked by the wrapper `hermitian`.
+//! Links the calls that only the benchmark makes, the archive that `rt lib` writes in
+//! the folder of the crate `bench_job`. The library itself is linked by the wrapper `hermitian`.
 
 use std::path::{Path, PathBuf};
 use std::process::exit;
@@ -9,16 +9,16 @@ fn main() {
     let archive = folder.join("libbench_job.a");
     println!("cargo:rerun-if-changed={}", archive.display());
     if !archive.is_file() {
-        eprintln!("error: the archive target/staticlib/libbench_job.a is missing.");
-        eprintln!("Run `rt staticlib bench_job` in the top folder of the repository.");
+        eprintln!("error: the archive crates/bench_job/out/libbench_job.a is missing.");
+        eprintln!("Run `rt lib` in crates/bench_job of the repository.");
         exit(1);
     }
     println!("cargo:rustc-link-search=native={}", folder.display());
     println!("cargo:rustc-link-lib=static=bench_job");
 }
 
-/// target/staticlib of the repository, two folders above this crate.
+/// crates/bench_job/out of the repository, whose top is two folders above this crate.
 fn archive_folder() -> PathBuf {
     let crate_folder = std::env::var("CARGO_MANIFEST_DIR").expect("cargo sets CARGO_MANIFEST_DIR");
-    Path::new(&crate_folder).join("../../target/staticlib")
+    Path::new(&crate_folder).join("../../crates/bench_job/out")
 }

@@ -1,5 +1,5 @@
-//! Links the proved library, which `rt staticlib hermitian` and
-//! `rt staticlib hermitian_long` write.
+//! Links the proved library, the archives that `rt lib` writes in the folders of the
+//! crates `hermitian` and `hermitian_long`.
 
 use std::path::{Path, PathBuf};
 use std::process::exit;
@@ -8,9 +8,9 @@ use std::process::exit;
 const CRATES: [&str; 2] = ["hermitian", "hermitian_long"];
 
 fn main() {
-    let folder = archive_folder();
-    println!("cargo:rustc-link-search=native={}", folder.display());
     for name in CRATES {
+        let folder = archive_folder(name);
+        println!("cargo:rustc-link-search=native={}", folder.display());
         let archive = folder.join(format!("lib{name}.a"));
         println!("cargo:rerun-if-changed={}", archive.display());
         if !archive.is_file() {
@@ -21,13 +21,13 @@ fn main() {
     }
 }
 
-/// target/staticlib of the repository, two folders above this crate.
-fn archive_folder() -> PathBuf {
+/// crates/NAME/out of the repository, whose top is two folders above this crate.
+fn archive_folder(name: &str) -> PathBuf {
     let crate_folder = std::env::var("CARGO_MANIFEST_DIR").expect("cargo sets CARGO_MANIFEST_DIR");
-    Path::new(&crate_folder).join("../../target/staticlib")
+    Path::new(&crate_folder).join(format!("../../crates/{name}/out"))
 }
 
 fn explain_missing(name: &str) {
-    eprintln!("error: the proved archive target/staticlib/lib{name}.a is missing.");
-    eprintln!("Build it first: run `rt staticlib {name}` in the top folder of the repository.");
+    eprintln!("error: the proved archive crates/{name}/out/lib{name}.a is missing.");
+    eprintln!("Build it first: run `rt lib` in crates/{name} of the repository.");
 }

@@ -11,8 +11,11 @@ use reference::sample;
 
 use crate::{shape, BASELINE_MODE, N, SEED};
 
-/// Where `rt check blocks` puts the program.
-pub const PROGRAM: &str = concat!(env!("CARGO_MANIFEST_DIR"), "/../../target/bin/blocks");
+/// Where `run-blocks` puts the program.
+pub const PROGRAM: &str = concat!(
+    env!("CARGO_MANIFEST_DIR"),
+    "/../../crates/blocks/out/blocks"
+);
 
 const RECORDS: usize = 50_000;
 const SHORT_LENGTH: usize = 41;
@@ -23,7 +26,7 @@ pub fn run(program: &str) -> Result<(), String> {
     if !Path::new(program).is_file() {
         return Err(format!(
             "there is no program at {program}\n\
-             `rt check blocks` in the repository's top folder makes it at target/bin/blocks"
+             `./run-blocks` in the repository's top folder makes it at crates/blocks/out/blocks"
         ));
     }
     let own = std::env::current_exe().map_err(|error| format!("this program's path: {error}"))?;

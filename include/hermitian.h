@@ -76,10 +76,10 @@
  * to recover on chosen columns), one on a long block less than 14 KiB; from the platform
  * it needs memcpy and memset.
  *
- * Linking. `rt staticlib hermitian` writes target/staticlib/libhermitian.a, for
- * x86-64, with all entries but hermitian_recover_long, which `rt staticlib
- * hermitian_long` writes to target/staticlib/libhermitian_long.a; a program that
- * doesn't call it needn't link that one.
+ * Linking. `rt lib` in crates/hermitian writes out/libhermitian.a there, for x86-64,
+ * with all entries but hermitian_recover_long, which `rt lib` in crates/hermitian_long
+ * writes to out/libhermitian_long.a; a program that doesn't call it needn't link that
+ * one.
  */
 #ifndef HERMITIAN_H
 #define HERMITIAN_H

@@ -3,8 +3,8 @@
 use mathlib.Core.Path.{◌≡◌, refl, sym, ap, ◌∙◌}
 use Prim.Native.Nat.{◌≤◌}
 use native.Mathlib.Omega.{arith}
-use lib.ListN.{length}
-use Rattle.poly.proofs.Entries.{copied}
+use lib.ListN.{length, drop}
+use Rattle.poly.proofs.Entries.{copied, zeros}
 use Rattle.poly.proofs.Multiples.{stored_all}
 use Rattle.poly.proofs.Fronts.{lent_long, front_long, front_fits, front_again, again_long}
 use Rattle.points.specs.Series.{columns_of}
@@ -73,7 +73,7 @@ copy-requires c =
 
 pub copy-requires-2 : goal.copy-requires-2
 copy-requires-2 c = (
-  front_fits _ c.write_word.new.word _ (front_long 64 _ (short (goal.at.copy-requires-2 c).Start) c.write_word.new.word c.write_word.auto.word),
+  omega (arith, front_fits (length c.args.word.now) c.write_word.new.word (drop (length c.args.word.now) (zeros 64)) (front_long 64 _ (short (goal.at.copy-requires-2 c).Start) c.write_word.new.word c.write_word.auto.word)),
   omega (arith, (accepted (goal.at.copy-requires-2 c).Start).mendable.long, (accepted (goal.at.copy-requires-2 c).Start).codeword_long),
 )
 

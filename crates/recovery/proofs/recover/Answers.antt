@@ -25,7 +25,7 @@ use Rattle.recovery.proofs.recover.Goals.{After-call-checked, In-Done}
 is_checked : (c : goal.After-call-checked) → let x = c.args in c.call-checked.result ≡ recover_checks x.q x.series x.m x.word.now x.message.now
 is_checked c =
     let x = c.args in
-    c.call-checked.ensures ∙ ap (λ (t : Bool). call_checks t true true x.q x.series x.m x.word.now (length x.message.now) Done) c.is_short-taken.ensures
+    c.call-checked.ensures ∙ ap (λ (t : Bool). call_checks t true true x.q x.series x.m x.word.now (length x.message.now) Done) (search rules)
 
 -- past the checks
 passed : (c : goal.In-Done) → let x = c.args in

@@ -18,7 +18,7 @@ use Rattle.systematic.proofs.check_call.Goals.{After-order-first, In-Done}
 order_is : (c : goal.After-order-first) → let x = c.args in c.order-first.result ≡ order_checks (is_short x.q) x.q x.series x.m Done
 order_is c =
     let x = c.args in
-    c.order-first.ensures ∙ ap (λ (t : Bool). order_checks t x.q x.series x.m Done) c.is_short.ensures
+    c.order-first.ensures ∙ ap (λ (t : Bool). order_checks t x.q x.series x.m Done) (search rules)
 
 -- past them
 ordered : (c : goal.In-Done) → let x = c.args in

@@ -1,5 +1,6 @@
 -- `recovery::recover` meets its contract: a refusal by the checks is the call's; past them the word with 0 at each gap is interpolated, and the gaps' grids are taken out.
 -- Assumes nothing.
+use borrow.Author.Rules.{rules}
 use mathlib.Core.Bool.{Bool, true}
 use mathlib.Core.Path.{◌≡◌, sym, ap, ◌∙◌, subst}
 use Prim.Native.Nat.{ℕ, ◌*◌, ◌<◌}

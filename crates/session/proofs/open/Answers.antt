@@ -2,26 +2,23 @@
 -- Assumes nothing.
 use mathlib.Core.Bool.{Bool}
 use mathlib.Core.Path.{◌≡◌, sym, ap, ◌∙◌}
+use borrow.Author.Rules.{rules}
 use Rattle.field.specs.Curve.{is_short}
 use Rattle.field.specs.declared.outcome.Outcome.TheVariants.{Done}
+use Rattle.field.proofs.Curves.{short_curve, short_of_true}
 use Rattle.field.proofs.Outcomes.{not_done}
 use Rattle.code.specs.Checks.{order_checks}
 use Rattle.session.proofs.Arrivals.{opened_done, opened_refused}
 use Rattle.session.proofs.open.Goals as goal
-use Rattle.session.proofs.open.Goals.{After-order-outcome}
-
--- what the checks say
-said : (c : goal.After-order-outcome) → let x = c.args in c.order-outcome.result ≡ order_checks (is_short x.q) x.q x.series x.m Done
-said c =
-    let x = c.args in
-    c.order-outcome.ensures ∙ ap (λ (t : Bool). order_checks t x.q x.series x.m Done) c.is_short.ensures
 
 pub returns-in-Done : goal.returns-in-Done
 returns-in-Done c =
     let x = c.args in
-    rw c.empty_session-session.ensures (sym (opened_done x.q x.series x.m _ (said (goal.at.returns-in-Done c).After-order-outcome) c.in-Done.is))
+    let done = c.order-outcome.ensures ∙ ap (λ (t : Bool). order_checks t x.q x.series x.m Done) c.is_short.ensures in
+    rw c.empty_session-session.ensures (sym (opened_done x.q x.series x.m _ done c.in-Done.is))
 
 pub returns-in_default : goal.returns-in_default
 returns-in_default c =
     let x = c.args in
-    rw c.empty_session-session-in_default.ensures (sym (opened_refused x.q x.series x.m _ (said (goal.at.returns-in_default c).After-order-outcome) (not_done c.order-outcome.result c.in_default.not-Done)))
+    let refused = c.order-outcome.ensures ∙ ap (λ (t : Bool). order_checks t x.q x.series x.m Done) c.is_short.ensures in
+    rw c.empty_session-session-in_default.ensures (sym (opened_refused x.q x.series x.m _ refused (not_done c.order-outcome.result c.in_default.not-Done)))

@@ -1,5 +1,6 @@
 -- `systematic::check_call` meets its contract: each way out has the tests that led there.
 -- Assumes nothing.
+use borrow.Author.Rules.{rules}
 use mathlib.Core.Bool.{Bool, true}
 use mathlib.Core.Path.{◌≡◌, sym, ap, ◌∙◌}
 use Prim.Native.Nat.{◌*◌, ◌<◌}

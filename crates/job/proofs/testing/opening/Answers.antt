@@ -1,7 +1,7 @@
 -- `job::testing::opening` meets its contract: a refusal by 1, 17 and 2 is the opening's; past them, the call's checks are asked with room for k.
 -- Assumes nothing.
 use mathlib.Core.Bool.{Bool}
-use mathlib.Core.Path.{◌≡◌, sym, ap, ◌∙◌}
+use mathlib.Core.Path.{sym, ap, ◌∙◌}
 use Rattle.field.specs.Curve.{is_short}
 use Rattle.field.specs.declared.outcome.Outcome.TheVariants.{Done}
 use Rattle.field.proofs.Curves.{short_curve, short_of_true}
@@ -9,21 +9,16 @@ use Rattle.code.specs.Checks.{order_checks}
 use Rattle.code.proofs.Checks.{order_done}
 use Rattle.code.proofs.Answers.{order_refused}
 use Rattle.job.proofs.testing.opening.Goals as goal
-use Rattle.job.proofs.testing.opening.Goals.{After-order-first}
-
--- what the first two checks say
-said : (c : goal.After-order-first) → let x = c.args in c.order-first.result ≡ order_checks (is_short x.q) x.q x.series x.m Done
-said c =
-    let x = c.args in
-    c.order-first.ensures ∙ ap (λ (t : Bool). order_checks t x.q x.series x.m Done) c.is_short-taken.ensures
 
 pub returns-in_default : goal.returns-in_default
 returns-in_default c =
     let x = c.args in
-    order_refused (is_short x.q) x.q x.series x.m _ (said (goal.at.returns-in_default c).After-order-first) c.in_default.not-Done _
+    let refused = c.order-first.ensures ∙ ap (λ (t : Bool). order_checks t x.q x.series x.m Done) c.is_short-taken.ensures in
+    order_refused (is_short x.q) x.q x.series x.m _ refused c.in_default.not-Done _
 
 pub size-requires : goal.size-requires
 size-requires c =
     let x = c.args in
+    let passed = c.order-first.ensures ∙ ap (λ (t : Bool). order_checks t x.q x.series x.m Done) c.is_short-taken.ensures in
     short_curve x.q
-    (short_of_true x.q (order_done (is_short x.q) x.q x.series x.m (sym (said (goal.at.size-requires c).After-order-first) ∙ c.in-Done.is)).0)
+    (short_of_true x.q (order_done (is_short x.q) x.q x.series x.m (sym passed ∙ c.in-Done.is)).0)

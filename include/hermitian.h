@@ -70,11 +70,11 @@
  *
  * Threads. There is no state outside a call: no globals, no heap, no setup. Any
  * number of threads may call at once, each with output buffers of its own; they
- * may share an input. As built now, a call on a short block takes less than
- * 12 KiB of stack (measured and not proved, in bytes: to encode at places 12144, and
- * 7040 for q = 4 and an m up to 37; 10352 to mend, and of the other calls 6512 at most,
- * to recover on chosen columns), one on a long block less than 14 KiB; from the platform
- * it needs memcpy and memset.
+ * may share an input. As built by the older kit (docs/PORT.md; not measured again
+ * since), a call on a short block took less than 12 KiB of stack (measured and not
+ * proved, in bytes: to encode at places 12144, and 7040 for q = 4 and an m up to 37;
+ * 10352 to mend, and of the other calls 6512 at most, to recover on chosen columns), one
+ * on a long block less than 14 KiB; from the platform it needs memcpy and memset.
  *
  * Linking. `rt lib` in crates/hermitian writes out/libhermitian.a there, for x86-64,
  * with all entries but hermitian_recover_long, which `rt lib` in crates/hermitian_long

@@ -4,29 +4,13 @@
 
 ghost use Rattle.std.specs.Prelude.{◌≡◌, ◌≤◌, length};
 
-use case_lines::{number, print_answer, print_byte, print_number, print_values};
+use case_lines::record::{input, order, series, slice_length};
+use case_lines::{print_answer, print_values};
 use field::Outcome;
 use job::{Job, Opening};
-use reading::read_full;
+use reading::read_record;
 use session::{Reply, Session};
-use std::io;
-
-// The length of a slice in a record, which has room for 72 bytes.
-fn room(length: usize) -> usize
-    ensures { (result ≤ length) × (result ≤ 72) }
-{
-    if length < 72 { length } else { 72 }
-}
-
-// The order of a record.
-fn order(record: [u8; 160]) -> u16 {
-    number(record[2], record[152])
-}
-
-// The series of a record: its byte with the lowest bit flipped, so that 0 is series 1.
-fn series(record: [u8; 160]) -> u8 {
-    record[154] ^ 1
-}
+use std::{array, io};
 
 fn field_case(rt: &impl Print, op: u8, q: u8, a: u8, b: u8) -> io::Result<()> {
     let answer = match op {
@@ -34,11 +18,8 @@ fn field_case(rt: &impl Print, op: u8, q: u8, a: u8, b: u8) -> io::Result<()> {
         b'*' => field::entry::product(q, a, b),
         _ => field::entry::inverse(q, a),
     };
-    let outcome = answer.outcome;
-    let symbol = answer.symbol;
-    print_answer(rt, op, outcome)?;
-    print_byte(rt, symbol)?;
-    rt.write_all(&[b'\n'])
+    print_answer(rt, op, answer.map(|_| ()))?;
+    rt.println(answer.unwrap_or(0))
 }
 
 fn run_on_slices(
@@ -76,16 +57,15 @@ fn slice_answer(
 
 fn slice_case(rt: &impl Print, session: Session, record: [u8; 160]) -> io::Result<()> {
     let mut lent = record;
-    let input_end = 8 + room(record[3] as usize);
-    let output_end = 80 + room(record[4] as usize);
+    let output_end = 80 + slice_length(record[4]);
     slice_answer(
         rt,
         record[0],
         record[1],
-        series(record),
-        order(record),
+        series(&record),
+        order(&record),
         session,
-        &record[8..input_end],
+        input(&record),
         &mut lent[80..output_end],
     )
 }
@@ -100,12 +80,9 @@ fn mend_answer(
     mended: &mut [u8],
     marks: &mut [u8],
 ) -> io::Result<()> {
-    let reply = mend::mend(q, series, m, word, message, mended, marks);
-    let outcome = reply.outcome;
-    let count = reply.count;
-    print_answer(rt, b'm', outcome)?;
-    print_byte(rt, count)?;
-    rt.write_all(&[b' '])?;
+    let answer = mend::mend(q, series, m, word, message, mended, marks);
+    print_answer(rt, b'm', answer.map(|_| ()))?;
+    print!(rt; "{} ", answer.unwrap_or(0))?;
     print_values(rt, message, b' ')?;
     print_values(rt, mended, b' ')?;
     print_values(rt, marks, b'\n')
@@ -116,16 +93,15 @@ fn mend_case(rt: &impl Print, record: [u8; 160]) -> io::Result<()> {
     let mut message = record;
     let mut mended = record;
     let mut marks = record;
-    let word_end = 8 + room(record[3] as usize);
-    let message_end = 80 + room(record[4] as usize);
-    let mended_end = 80 + room(record[5] as usize);
-    let marks_end = 80 + room(record[6] as usize);
+    let message_end = 80 + slice_length(record[4]);
+    let mended_end = 80 + slice_length(record[5]);
+    let marks_end = 80 + slice_length(record[6]);
     mend_answer(
         rt,
         record[1],
-        series(record),
-        order(record),
-        &record[8..word_end],
+        series(&record),
+        order(&record),
+        input(&record),
         &mut message[80..message_end],
         &mut mended[80..mended_end],
         &mut marks[80..marks_end],
@@ -137,11 +113,7 @@ fn bytes_from(start: usize, record: [u8; 160]) -> [u8; 64]
     requires { start ≤ 96 }
 {
     let mut bytes = [0u8; 64];
-    let mut j = 0;
-    while j < 64 {
-        bytes[j] = record[start + j];
-        j += 1;
-    }
+    bytes.copy_from_slice(&record[start..start + 64]);
     bytes
 }
 
@@ -151,8 +123,8 @@ fn raw_session(record: [u8; 160]) -> Session {
     let rounds = bytes_from(80, record);
     Session {
         q: record[1],
-        series: series(record),
-        m: order(record),
+        series: series(&record),
+        m: order(&record),
         places,
         rounds,
     }
@@ -160,38 +132,35 @@ fn raw_session(record: [u8; 160]) -> Session {
 
 fn session_reply(session: Session, record: [u8; 160]) -> Reply {
     match record[0] {
-        b'o' => session::open(record[1], series(record), order(record)),
+        b'o' => session::open(record[1], series(&record), order(&record)),
         b's' => Reply {
             session: raw_session(record),
-            outcome: Outcome::Done,
+            outcome: Ok(()),
         },
-        _ => session.arrive(number(record[5], record[153]), record[6], record[7]),
+        _ => session.arrive(
+            u16::from_le_bytes([record[5], record[153]]),
+            record[6],
+            record[7],
+        ),
     }
 }
 
-// The series of a session or job after its q, but for series 1.
-fn print_series(rt: &impl Print, series: u8) -> io::Result<()> {
+// q, with the series after it but for series 1, and m, of a session or job; a space after each.
+fn print_parameters(rt: &impl Print, q: u8, series: u8, m: u16) -> io::Result<()> {
+    rt.print(q)?;
     if series != 1 {
-        rt.write_all(&[b'/'])?;
-        print_byte(rt, series)?;
+        print!(rt; "/{series}")?;
     }
-    Ok(())
+    print!(rt; " {m} ")
 }
 
 fn session_case(rt: &impl Print, session: Session, record: [u8; 160]) -> io::Result<Session> {
     let reply = session_reply(session, record);
     let next = reply.session;
-    let outcome = reply.outcome;
-    let places = next.places;
-    let rounds = next.rounds;
-    print_answer(rt, record[0], outcome)?;
-    print_byte(rt, next.q)?;
-    print_series(rt, next.series)?;
-    rt.write_all(&[b' '])?;
-    print_number(rt, next.m)?;
-    rt.write_all(&[b' '])?;
-    print_values(rt, &places, b' ')?;
-    print_values(rt, &rounds, b'\n')?;
+    print_answer(rt, record[0], reply.outcome)?;
+    print_parameters(rt, next.q, next.series, next.m)?;
+    print_values(rt, &next.places, b' ')?;
+    print_values(rt, &next.rounds, b'\n')?;
     Ok(next)
 }
 
@@ -199,14 +168,7 @@ fn session_case(rt: &impl Print, session: Session, record: [u8; 160]) -> io::Res
 fn arrival_places(record: [u8; 160]) -> [u16; 18]
     ensures { length result ≡ 18 }
 {
-    let mut places = [0u16; 18];
-    let mut i = 0;
-    while i < 18 {
-        let at = 8 + 4 * i;
-        places[i] = number(record[at], record[at + 1]);
-        i += 1;
-    }
-    places
+    array::from_fn(|i| u16::from_le_bytes([record[8 + 4 * i], record[9 + 4 * i]]))
 }
 
 // Every fourth of 72 bytes of a record, from `start` on.
@@ -214,13 +176,7 @@ fn every_fourth(start: usize, record: [u8; 160]) -> [u8; 18]
     requires { start ≤ 88 }
     ensures { length result ≡ 18 }
 {
-    let mut bytes = [0u8; 18];
-    let mut i = 0;
-    while i < 18 {
-        bytes[i] = record[start + 4 * i];
-        i += 1;
-    }
-    bytes
+    array::from_fn(|i| record[start + 4 * i])
 }
 
 fn replay_answer(
@@ -236,8 +192,8 @@ fn replay_answer(
     let rounds = every_fourth(11, record);
     let outcome = session::replay::replay(
         record[1],
-        series(record),
-        order(record),
+        series(&record),
+        order(&record),
         &places[..count],
         &symbols[..count],
         &rounds[..count],
@@ -249,8 +205,8 @@ fn replay_answer(
 
 fn replay_case(rt: &impl Print, record: [u8; 160]) -> io::Result<()> {
     let mut lent = record;
-    let message_end = 80 + room(record[4] as usize);
-    let count = room(record[3] as usize) / 4;
+    let message_end = 80 + slice_length(record[4]);
+    let count = slice_length(record[3]) / 4;
     replay_answer(rt, record, count, &mut lent[80..message_end])
 }
 
@@ -271,14 +227,13 @@ fn turns_answer(
 fn turns_case(rt: &impl Print, record: [u8; 160]) -> io::Result<()> {
     let mut lent = record;
     let budgets = [record[5], record[6], record[7]];
-    let word_end = 8 + room(record[3] as usize);
-    let message_end = 80 + room(record[4] as usize);
+    let message_end = 80 + slice_length(record[4]);
     turns_answer(
         rt,
         record[1],
-        series(record),
-        order(record),
-        &record[8..word_end],
+        series(&record),
+        order(&record),
+        input(&record),
         &budgets,
         &mut lent[80..message_end],
     )
@@ -288,13 +243,7 @@ fn turns_case(rt: &impl Print, record: [u8; 160]) -> io::Result<()> {
 fn low_places(record: [u8; 160]) -> [u16; 72]
     ensures { length result ≡ 72 }
 {
-    let mut places = [0u16; 72];
-    let mut i = 0;
-    while i < 72 {
-        places[i] = record[8 + i] as u16;
-        i += 1;
-    }
-    places
+    array::from_fn(|i| u16::from(record[8 + i]))
 }
 
 // The same with the high byte that one of them has. Byte 6 says which.
@@ -302,9 +251,9 @@ fn chosen_places(record: [u8; 160]) -> [u16; 72]
     ensures { length result ≡ 72 }
 {
     let mut places = low_places(record);
-    let i = record[6] as usize;
+    let i = usize::from(record[6]);
     if i < 72 {
-        places[i] = number(record[8 + i], record[153]);
+        places[i] = u16::from_le_bytes([record[8 + i], record[153]]);
     }
     places
 }
@@ -326,14 +275,14 @@ fn encode_at_answer(
 fn encode_at_case(rt: &impl Print, record: [u8; 160]) -> io::Result<()> {
     let places = chosen_places(record);
     let mut word = [record[7]; 72];
-    let count = room(record[3] as usize);
-    let symbols_end = 80 + room(record[4] as usize);
-    let word_end = room(record[5] as usize);
+    let count = slice_length(record[3]);
+    let symbols_end = 80 + slice_length(record[4]);
+    let word_end = slice_length(record[5]);
     encode_at_answer(
         rt,
         record[1],
-        series(record),
-        order(record),
+        series(&record),
+        order(&record),
         &places[..count],
         &record[80..symbols_end],
         &mut word[..word_end],
@@ -373,17 +322,16 @@ fn columns_answer(
 fn columns_case(rt: &impl Print, record: [u8; 160]) -> io::Result<()> {
     let listed = record;
     let mut output = [record[7]; 72];
-    let m = order(record);
-    let input_end = 8 + room(record[3] as usize);
-    let columns_end = 80 + room(record[4] as usize);
-    let output_end = room(record[5] as usize);
+    let m = order(&record);
+    let columns_end = 80 + slice_length(record[4]);
+    let output_end = slice_length(record[5]);
     columns_answer(
         rt,
         record[0],
         record[1],
         &listed[80..columns_end],
         m,
-        &record[8..input_end],
+        input(&record),
         &mut output[..output_end],
     )
 }
@@ -391,48 +339,22 @@ fn columns_case(rt: &impl Print, record: [u8; 160]) -> io::Result<()> {
 // Runs a case of no job at the current session and answers the one after it.
 fn run_case(rt: &impl Print, session: Session, record: [u8; 160]) -> io::Result<Session> {
     match record[0] {
-        b'+' | b'*' | b'i' => {
-            field_case(rt, record[0], record[1], record[5], record[6])?;
-            Ok(session)
-        }
-        b'o' | b's' | b'a' => session_case(rt, session, record),
-        b'm' => {
-            mend_case(rt, record)?;
-            Ok(session)
-        }
-        b'p' => {
-            replay_case(rt, record)?;
-            Ok(session)
-        }
-        b't' => {
-            turns_case(rt, record)?;
-            Ok(session)
-        }
-        b'E' => {
-            encode_at_case(rt, record)?;
-            Ok(session)
-        }
-        b'X' | b'U' | b'R' => {
-            columns_case(rt, record)?;
-            Ok(session)
-        }
-        _ => {
-            slice_case(rt, session, record)?;
-            Ok(session)
-        }
+        b'o' | b's' | b'a' => return session_case(rt, session, record),
+        b'+' | b'*' | b'i' => field_case(rt, record[0], record[1], record[5], record[6])?,
+        b'm' => mend_case(rt, record)?,
+        b'p' => replay_case(rt, record)?,
+        b't' => turns_case(rt, record)?,
+        b'E' => encode_at_case(rt, record)?,
+        b'X' | b'U' | b'R' => columns_case(rt, record)?,
+        _ => slice_case(rt, session, record)?,
     }
+    Ok(session)
 }
 
 // A job of the input as a broken word, or one of the current session.
 fn job_opening(session: Session, record: [u8; 160]) -> Opening {
-    let word_end = 8 + room(record[3] as usize);
     match record[0] {
-        b'j' => job::open(
-            record[1],
-            series(record),
-            order(record),
-            &record[8..word_end],
-        ),
+        b'j' => job::open(record[1], series(&record), order(&record), input(&record)),
         _ => session.job(),
     }
 }
@@ -440,15 +362,9 @@ fn job_opening(session: Session, record: [u8; 160]) -> Opening {
 fn opening_case(rt: &impl Print, session: Session, record: [u8; 160]) -> io::Result<Job> {
     let opening = job_opening(session, record);
     let next = opening.job;
-    let outcome = opening.outcome;
-    let places = next.places;
-    print_answer(rt, record[0], outcome)?;
-    print_byte(rt, next.q)?;
-    print_series(rt, next.series)?;
-    rt.write_all(&[b' '])?;
-    print_number(rt, next.m)?;
-    rt.write_all(&[b' '])?;
-    print_values(rt, &places, b'\n')?;
+    print_answer(rt, record[0], opening.outcome)?;
+    print_parameters(rt, next.q, next.series, next.m)?;
+    print_values(rt, &next.places, b'\n')?;
     Ok(next)
 }
 
@@ -463,41 +379,31 @@ fn print_kind(rt: &impl Print, reply: job::Reply) -> io::Result<()> {
 
 fn call_answer(rt: &impl Print, job: Job, budget: u8, message: &mut [u8]) -> io::Result<Job> {
     let turn = job.carry_on(budget, message);
-    let next = turn.job;
-    let reply = turn.reply;
-    print_answer(rt, b'c', job::outcome(reply))?;
-    print_byte(rt, turn.brought)?;
-    print_kind(rt, reply)?;
+    print_answer(rt, b'c', Outcome::from(turn.reply))?;
+    rt.print(turn.brought)?;
+    print_kind(rt, turn.reply)?;
     print_values(rt, message, b'\n')?;
-    Ok(next)
+    Ok(turn.job)
 }
 
 fn call_case(rt: &impl Print, job: Job, record: [u8; 160]) -> io::Result<Job> {
     let mut lent = record;
-    let message_end = 80 + room(record[4] as usize);
+    let message_end = 80 + slice_length(record[4]);
     call_answer(rt, job, record[5], &mut lent[80..message_end])
 }
 
 // Work bytes of which only the diagonal is set.
 fn diagonal_work(record: [u8; 160]) -> [u8; 4096] {
     let mut work = [0u8; 4096];
-    let mut i = 0;
-    while i < 64 {
+    for i in 0..64 {
         work[65 * i] = record[80 + i];
-        i += 1;
     }
     work
 }
 
 // Work bytes that are all set, from 72 bytes of the record in turn.
 fn full_work(record: [u8; 160]) -> [u8; 4096] {
-    let mut work = [0u8; 4096];
-    let mut i = 0;
-    while i < 4096 {
-        work[i] = record[80 + i % 72];
-        i += 1;
-    }
-    work
+    array::from_fn(|i| record[80 + i % 72])
 }
 
 fn raw_work(record: [u8; 160]) -> [u8; 4096] {
@@ -519,46 +425,32 @@ fn raw_job(record: [u8; 160]) -> Job {
         candidate: message,
         whole: message,
         q: record[1],
-        series: series(record),
-        m: order(record),
-        next: number(record[3], record[153]),
+        series: series(&record),
+        m: order(&record),
+        next: u16::from_le_bytes([record[3], record[153]]),
         complete: record[6] / 2 % 2 == 1,
         clash: record[6] % 2 == 1,
     }
 }
 
-fn is_same(a: [u8; 160], b: [u8; 160]) -> bool {
-    let mut j = 0;
-    while j < 160 {
-        if a[j] != b[j] {
-            return false;
-        }
-        j += 1;
-    }
-    true
-}
-
 // Whether four calls, each on the job that the one before it handed back, write the slice only with a message.
 fn keeps_slice(job: Job, record: [u8; 160]) -> bool {
-    let message_end = 80 + room(record[4] as usize);
+    let message_end = 80 + slice_length(record[4]);
     let mut current = job;
     let mut lent = record;
-    let mut calls = 4u8;
-    while calls > 0 {
+    for _ in 0..4 {
         let before = lent;
         let turn = current.carry_on(record[5], &mut lent[80..message_end]);
-        let reply = turn.reply;
-        if !job::is_message(reply) && !is_same(before, lent) {
+        if !job::is_message(turn.reply) && lent != before {
             return false;
         }
         current = turn.job;
-        calls -= 1;
     }
     true
 }
 
 fn raw_job_case(rt: &impl Print, record: [u8; 160]) -> io::Result<()> {
-    print_answer(rt, b'y', Outcome::Done)?;
+    print_answer(rt, b'y', Ok(()))?;
     if keeps_slice(raw_job(record), record) {
         rt.write_all(b"kept\n")
     } else {
@@ -567,10 +459,7 @@ fn raw_job_case(rt: &impl Print, record: [u8; 160]) -> io::Result<()> {
 }
 
 fn is_of_job(op: u8) -> bool {
-    match op {
-        b'j' | b'J' | b'c' | b'y' => true,
-        _ => false,
-    }
+    matches!(op, b'j' | b'J' | b'c' | b'y')
 }
 
 // Runs a case of a job at the current session and job and answers the job after it.
@@ -593,11 +482,9 @@ fn main(rt: HostRuntime) -> io::Result<()> {
     let mut job = refused_job.job;
     let mut from = rt.stdin();
     for _ in 0..u64::MAX {
-        let mut record = [0u8; 160];
-        let n = read_full(&mut from, &mut record)?;
-        if n < 160 {
+        let Some(record) = read_record(&mut from)? else {
             break;
-        }
+        };
         if is_of_job(record[0]) {
             job = run_job_case(&rt, session, job, record)?;
         } else {

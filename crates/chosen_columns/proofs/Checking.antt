@@ -9,10 +9,10 @@ use borrow.Author.Tests.{lt-leb, le-leb, leb-false, not-false}
 use lib.Dec.{leb}
 use lib.ListN.{length}
 use Rattle.field.specs.Curve.{is_short, IsShort, curve_of}
+use Rattle.std.specs.Prelude.{Err}
 use Rattle.field.specs.declared.curve.Curve.{Curve}
-use Rattle.field.specs.Outcomes.{number}
-use Rattle.field.specs.declared.outcome.Outcome.{Outcome}
-use Rattle.field.specs.declared.outcome.Outcome.TheVariants.{Done, BadCurve, BadColumns, BadOrder}
+use Rattle.field.specs.Outcomes.{Outcome, Done, number}
+use Rattle.field.specs.declared.outcome.Refusal.TheVariants.{BadCurve, BadColumns, BadOrder}
 use Rattle.field.proofs.Curves.{short_curve, short_true, short_of_true}
 use Rattle.field.proofs.Outcomes.{passed}
 use Rattle.poly.proofs.Bools.{T_true}
@@ -27,17 +27,17 @@ module _ (gaps decodes : Bool) (q : ℕ) (columns : List ℕ) (m : ℕ) (input :
   abbrev checks : Outcome
   checks = on_checks gaps decodes q columns m input room
 
-  pub refused_curve : not (is_short q) ≡ true → BadCurve ≡ checks
+  pub refused_curve : not (is_short q) ≡ true → Err BadCurve ≡ checks
   unfolding on_checks
   refused_curve e = rw e
 
   module _ (short : not (is_short q) ≡ false) where
-    pub refused_columns : not (is_column_list (q * q) columns) ≡ true → BadColumns ≡ checks
+    pub refused_columns : not (is_column_list (q * q) columns) ≡ true → Err BadColumns ≡ checks
     unfolding on_checks
     refused_columns e = rw (short, e)
 
     module _ (good : not (is_column_list (q * q) columns) ≡ false) where
-      pub refused_order : q * length columns ≤ m → BadOrder ≡ checks
+      pub refused_order : q * length columns ≤ m → Err BadOrder ≡ checks
       unfolding on_checks
       refused_order l = rw (short, good, le-leb (q * length columns) m l)
 
@@ -67,9 +67,9 @@ module _ (gaps decodes : Bool) (q : ℕ) (columns : List ℕ) (m : ℕ) (input :
   pub checks_passed : checks ≡ Done → Passed
   unfolding on_checks
   checks_passed e =
-      let (taken, e1) = passed (not (is_short q)) _ BadCurve (λ p. omega (arith, ap number p)) e in
-      let (good, e2) = passed (not (is_column_list (q * q) columns)) _ BadColumns (λ p. omega (arith, ap number p)) e1 in
-      let (low, e3) = passed (leb (q * length columns) m) _ BadOrder (λ p. omega (arith, ap number p)) e2 in
+      let (taken, e1) = passed (not (is_short q)) _ BadCurve e in
+      let (good, e2) = passed (not (is_column_list (q * q) columns)) _ BadColumns e1 in
+      let (low, e3) = passed (leb (q * length columns) m) _ BadOrder e2 in
       record {
         short = short_of_true q (not-false (is_short q) taken);
         list = of_column_list (q * q) columns (rw (not-false (is_column_list (q * q) columns) good) tt);

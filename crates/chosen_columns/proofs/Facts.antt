@@ -9,8 +9,9 @@ use Prim.Native.Nat.{ℕ, ◌+◌, ◌*◌, ◌^◌, ◌≤◌, ◌<◌}
 use native.Mathlib.Omega.{arith}
 use lib.ListN.{length, get_or}
 use Rattle.field.specs.Curve.{IsShort}
-use Rattle.field.specs.Outcomes.{number}
-use Rattle.field.specs.declared.outcome.Outcome.TheVariants.{Done, NoMessage, Several}
+use Rattle.std.specs.Prelude.{Err}
+use Rattle.field.specs.Outcomes.{Done, number}
+use Rattle.field.specs.declared.outcome.Refusal.TheVariants.{NoMessage, Several}
 use Rattle.field.proofs.Curves.{short_curve, two_symbols}
 use Rattle.poly.specs.Lists.{Nodup}
 use Rattle.poly.specs.Messages.{Vector}
@@ -137,7 +138,7 @@ module _ (q : ℕ) (columns : List ℕ) (m : ℕ) (short : IsShort q) (list : Co
         (record { len = p.accepted.long; value = λ i l. value_of_good (q * q) (get_or broken i 0) (p.accepted.good i (omega (arith, p.accepted.long))) }))
 
     -- 'none', a message, 'several' with r: each exactly where it is so
-    pub recovers_nothing : (answer.outcome ≡ NoMessage) ↔ ((v : List ℕ) → Fit v → ⊥)
+    pub recovers_nothing : (answer.outcome ≡ Err NoMessage) ↔ ((v : List ℕ) → Fit v → ⊥)
     unfolding reading
     recovers_nothing =
         let (a, b) = answer_nothing read_as slice in
@@ -156,7 +157,7 @@ module _ (q : ℕ) (columns : List ℕ) (m : ℕ) (short : IsShort q) (list : Co
         made : (x : Answer) → x.outcome ≡ Done → x.slice ≡ v → x ≡ answered Done v
         made x e f = ap₂ answered e f
 
-    pub recovers_several : (r : ℕ) → (answer.outcome ≡ Several r) ↔ (TwoOrMore Fit × Exactly ((q * q) ^ r) Fit)
+    pub recovers_several : (r : ℕ) → (answer.outcome ≡ Err (Several r)) ↔ (TwoOrMore Fit × Exactly ((q * q) ^ r) Fit)
     unfolding reading
     recovers_several r =
         let (a, b) = answer_several read_as slice r in
@@ -165,7 +166,7 @@ module _ (q : ℕ) (columns : List ℕ) (m : ℕ) (short : IsShort q) (list : Co
 
     -- M + 1 SYMBOLS ARE ENOUGH: with m + 1 places that aren't missing it never says 'several'
     pub enough : (places : List ℕ) → Nodup places → m + 1 ≤ length places
-        → ((i : ℕ) → Mem i places → (i < n) × (get_or broken i 0 ≡ 255 → ⊥)) → (r : ℕ) → answer.outcome ≡ Several r → ⊥
+        → ((i : ℕ) → Mem i places → (i < n) × (get_or broken i 0 ≡ 255 → ⊥)) → (r : ℕ) → answer.outcome ≡ Err (Several r) → ⊥
     enough places distinct many there r e =
         let two = ((recovers_several r).0 e).0 in
         two.different

@@ -7,8 +7,7 @@ use Prim.Native.Nat.{ℕ, ◌*◌}
 use native.Mathlib.Omega.{arith}
 use lib.ListN.{length}
 use Rattle.field.specs.Curve.{is_curve, is_short, IsShort}
-use Rattle.field.specs.declared.outcome.Outcome.{Outcome}
-use Rattle.field.specs.declared.outcome.Outcome.TheVariants.{Done}
+use Rattle.field.specs.Outcomes.{Outcome, Done}
 use Rattle.field.proofs.Curves.{sizes, short_curve, short_true, curve_true, two_symbols}
 use Rattle.poly.proofs.Bools.{T_true}
 use Rattle.points.specs.Passing.{up_to}

@@ -1,9 +1,8 @@
 -- "a strictly ascending list of c column values x, at least one" (T-12), and the checks of a call over such a list.
 use Rattle.std.specs.Prelude.{Bool, not, ◌&&◌, cond, List, ℕ, ◌*◌, eqb, leb, length}
 use Rattle.field.specs.Curve.{is_short, curve_of}
-use Rattle.field.specs.Outcomes.{refuse}
-use Rattle.field.specs.declared.outcome.Outcome.{Outcome}
-use Rattle.field.specs.declared.outcome.Outcome.TheVariants.{Done, BadCurve, BadColumns, BadOrder}
+use Rattle.field.specs.Outcomes.{Outcome, Done, refuse}
+use Rattle.field.specs.declared.outcome.Refusal.TheVariants.{BadCurve, BadColumns, BadOrder}
 use Rattle.poly.specs.Ascending.{is_ascending_below}
 use Rattle.code.specs.Terms.{size}
 use Rattle.code.specs.Checks.{slice_checks}

@@ -8,6 +8,8 @@ ghost use Rattle.chosen_columns.specs.Inner.Widening.{Widened};
 use code::conversion;
 
 // Whether these are columns of a field of the size, at least one, strictly ascending.
+// kept: `systematic` has the same loop over places, which are numbers of 16 bits; the clause of one function for both would speak of the
+// numbers of a list of any type, and the definitions of lists of numbers.
 pub fn are_good(size: u8, columns: &[u8]) -> bool
     ensures { result ≡ is_column_list size columns.now }
 {
@@ -15,8 +17,7 @@ pub fn are_good(size: u8, columns: &[u8]) -> bool
         return false;
     }
     let mut least = 0;
-    let mut i = 0;
-    while i < columns.len() {
+    for i in 0..columns.len() {
         let x = columns[i] as usize;
         if x < least {
             return false;
@@ -25,7 +26,6 @@ pub fn are_good(size: u8, columns: &[u8]) -> bool
             return false;
         }
         least = x + 1;
-        i += 1;
     }
     true
 }

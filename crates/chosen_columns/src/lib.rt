@@ -16,7 +16,7 @@ ghost use Rattle.chosen_columns.specs.UnencodedOn.{unencoded_on};
 ghost use Rattle.chosen_columns.specs.RecoveredOn.{recovered_on};
 
 use code::{check, encoding, term, unencoding};
-use field::{Curve, Outcome};
+use field::{Curve, Outcome, Refusal};
 use poly::vanishing;
 
 pub mod columns;
@@ -34,15 +34,15 @@ fn check_call(
     ensures { result ≡ on_checks gaps decodes q columns.now m input.now room }
 {
     if !field::curve::is_short(q) {
-        return Outcome::BadCurve;
+        return Err(Refusal::BadCurve);
     }
     let curve = Curve::at(q);
     if !columns::are_good(curve.symbols, columns) {
-        return Outcome::BadColumns;
+        return Err(Refusal::BadColumns);
     }
     let n = (q as usize) * columns.len();
     if n <= m {
-        return Outcome::BadOrder;
+        return Err(Refusal::BadOrder);
     }
     let k = term::size(q, m);
     if decodes {
@@ -57,12 +57,9 @@ pub fn encode_on(q: u8, columns: &[u8], m: u16, message: &[u8], word: &mut [u8])
     ensures { encoded_on q columns.now m message.now word.old ≡ answered result word.new }
 {
     let order = m as usize;
-    let checked = check_call(false, false, q, columns, order, message, word.len());
-    let Outcome::Done = checked else {
-        return checked;
-    };
+    check_call(false, false, q, columns, order, message, word.len())?;
     encoding::write_word_over(q, columns, order, message, word);
-    Outcome::Done
+    Ok(())
 }
 
 // The message of a word over the columns, whose vanishing polynomials are worked out.
@@ -81,10 +78,7 @@ pub fn unencode_on(q: u8, columns: &[u8], m: u16, word: &[u8], message: &mut [u8
     ensures { unencoded_on q columns.now m word.now message.old ≡ answered result message.new }
 {
     let order = m as usize;
-    let checked = check_call(false, true, q, columns, order, word, message.len());
-    let Outcome::Done = checked else {
-        return checked;
-    };
+    check_call(false, true, q, columns, order, word, message.len())?;
     read_word(q, columns, order, word, message)
 }
 
@@ -107,9 +101,6 @@ pub fn recover_on(q: u8, columns: &[u8], m: u16, word: &[u8], message: &mut [u8]
     ensures { recovered_on q columns.now m word.now message.old ≡ answered result message.new }
 {
     let order = m as usize;
-    let checked = check_call(true, true, q, columns, order, word, message.len());
-    let Outcome::Done = checked else {
-        return checked;
-    };
+    check_call(true, true, q, columns, order, word, message.len())?;
     recover_over(q, columns, order, word, message)
 }

@@ -6,9 +6,7 @@ use mathlib.Core.Logic.{⊎_elim}
 use mathlib.Core.Path.{◌≡◌, refl, sym, ap, ◌∙◌}
 use Prim.Native.Nat.{ℕ}
 use lib.Dec.{eqb}
-use Rattle.field.specs.Outcomes.{number}
-use Rattle.field.specs.declared.outcome.Outcome.{Outcome}
-use Rattle.field.specs.declared.outcome.Outcome.TheVariants.{Done}
+use Rattle.field.specs.Outcomes.{Outcome, Done, number}
 use Rattle.field.proofs.Outcomes.{done_or_refused, not_done, done_or_not, row_refused}
 use Rattle.code.specs.Checks.{order_checks, slice_checks}
 use Rattle.code.specs.Answers.{Answer, answered, unless_refused}

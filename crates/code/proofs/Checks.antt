@@ -8,9 +8,9 @@ use native.Mathlib.Omega.{arith}
 use borrow.Author.Tests.{lt-leb, lt-ltb, le-ltb, eq-eqb, ne_eqb, eqb-true, leb-false, ltb-false, not-false}
 use lib.Dec.{leb, ltb, eqb}
 use lib.ListN.{length, get_or}
-use Rattle.field.specs.Outcomes.{number, refuse}
-use Rattle.field.specs.declared.outcome.Outcome.{Outcome}
-use Rattle.field.specs.declared.outcome.Outcome.TheVariants.{Done, BadCurve, BadOrder, BadLength, BadValue, BadRoom, BadSeries}
+use Rattle.std.specs.Prelude.{Err}
+use Rattle.field.specs.Outcomes.{Outcome, Done, number, refuse}
+use Rattle.field.specs.declared.outcome.Refusal.TheVariants.{BadCurve, BadOrder, BadLength, BadValue, BadRoom, BadSeries}
 pub use Rattle.field.proofs.Values.{good_symbol, good_gap, bad_gap, symbol_of_good, value_of_good, all_good, none_found}
 use Rattle.field.proofs.Outcomes.{passed, Follows, none_follow, refuse_follows, follows_after, row_not_done, row_passed}
 use Rattle.points.specs.Series.{is_series}
@@ -24,8 +24,8 @@ pub curve_rest : (taken : Bool) (series : ℕ) (rest : Outcome) → curve_checks
     → (taken ≡ true) × (is_series series ≡ true) × (rest ≡ Done)
 unfolding curve_checks
 curve_rest taken series rest e =
-    let a = passed (not taken) (refuse (not (is_series series)) BadSeries rest) BadCurve (λ p. omega (arith, ap number p)) e in
-    let b = passed (not (is_series series)) rest BadSeries (λ p. omega (arith, ap number p)) a.1 in
+    let a = passed (not taken) (refuse (not (is_series series)) BadSeries rest) BadCurve e in
+    let b = passed (not (is_series series)) rest BadSeries a.1 in
     (not-false taken a.0, not-false (is_series series) b.0, b.1)
 
 -- and 1, 17 and 2
@@ -34,7 +34,7 @@ pub order_rest : (taken : Bool) (q series m : ℕ) (rest : Outcome) → order_ch
 unfolding order_checks
 order_rest taken q series m rest e =
     let a = curve_rest taken series (refuse (leb (q * q * q) m) BadOrder rest) e in
-    let b = passed (leb (q * q * q) m) rest BadOrder (λ p. omega (arith, ap number p)) a.2 in
+    let b = passed (leb (q * q * q) m) rest BadOrder a.2 in
     (a.0, leb-false (q * q * q) m b.0, b.1, a.1)
 
 pub order_done : (taken : Bool) (q series m : ℕ) → order_checks taken q series m Done ≡ Done
@@ -47,7 +47,7 @@ unfolding curve_checks
 curve_passed taken series rest c n = rw (c, n)
 
 module _ (taken : Bool) (q series m : ℕ) (rest : Outcome) where
-  pub order_curve : taken ≡ false → order_checks taken q series m rest ≡ BadCurve
+  pub order_curve : taken ≡ false → order_checks taken q series m rest ≡ Err BadCurve
   unfolding order_checks curve_checks
   order_curve e = rw e
 
@@ -60,12 +60,12 @@ pub value_rest : (gaps : Bool) (Q : ℕ) (input : List ℕ) (rest : Outcome) →
     → ((i : ℕ) → i < length input → bad_value gaps Q (get_or input i 0) ≡ false) × (rest ≡ Done)
 value_rest gaps Q input rest e =
     let w = first_bad (bad_value gaps Q) input in
-    let a = passed (ltb w (length input)) rest (BadValue w) (λ p. omega (arith, ap number p)) e in
+    let a = passed (ltb w (length input)) rest (BadValue w) e in
     (all_good (bad_value gaps Q) input (ltb-false w (length input) a.0), a.1)
 
 -- how the test of the code decides 4; w is what its search found
 module _ (gaps : Bool) (Q : ℕ) (input : List ℕ) (w : ℕ) (f : w ≡ first_bad (bad_value gaps Q) input) where
-  pub value_bad : w < length input → BadValue w ≡ value_check gaps Q input Done
+  pub value_bad : w < length input → Err (BadValue w) ≡ value_check gaps Q input Done
   value_bad l = rw (← f, lt-ltb w (length input) l)
 
   pub value_good : length input ≤ w → Done ≡ value_check gaps Q input Done
@@ -82,9 +82,9 @@ pub slices_rest : (gaps : Bool) (Q takes : ℕ) (input : List ℕ) (writes room 
 unfolding slice_checks
 slices_rest gaps Q takes input writes room rest e =
     let last = refuse (not (eqb room writes)) BadRoom rest in
-    let a = passed (not (eqb (length input) takes)) (value_check gaps Q input last) BadLength (λ p. omega (arith, ap number p)) e in
+    let a = passed (not (eqb (length input) takes)) (value_check gaps Q input last) BadLength e in
     let b = value_rest gaps Q input last a.1 in
-    let c = passed (not (eqb room writes)) rest BadRoom (λ p. omega (arith, ap number p)) b.1 in (
+    let c = passed (not (eqb room writes)) rest BadRoom b.1 in (
       record {
         long = eqb-true (length input) takes (not-false (eqb (length input) takes) a.0);
         good = b.0;
@@ -116,19 +116,19 @@ call_done taken gaps decodes q series m input room e = let w = call_rest taken g
 pub curve_follows : (taken : Bool) (series : ℕ) → Follows (curve_checks taken series)
 unfolding curve_checks
 curve_follows taken series =
-    refuse_follows (not taken) BadCurve (refuse (not (is_series series)) BadSeries) refl
-    (refuse_follows (not (is_series series)) BadSeries (λ rest. rest) refl none_follow)
+    refuse_follows (not taken) BadCurve (refuse (not (is_series series)) BadSeries)
+    (refuse_follows (not (is_series series)) BadSeries (λ rest. rest) none_follow)
 
 pub order_follows : (taken : Bool) (q series m : ℕ) → Follows (order_checks taken q series m)
 unfolding order_checks
 order_follows taken q series m =
     follows_after (curve_checks taken series) (refuse (leb (q * q * q) m) BadOrder) (curve_follows taken series)
-    (refuse_follows (leb (q * q * q) m) BadOrder (λ rest. rest) refl none_follow)
+    (refuse_follows (leb (q * q * q) m) BadOrder (λ rest. rest) none_follow)
 
 -- check 4 before a row
 value_before : (gaps : Bool) (Q : ℕ) (input : List ℕ) (row : Outcome → Outcome) → Follows row → Follows (λ rest. value_check gaps Q input (row rest))
 value_before gaps Q input row f =
-    refuse_follows (ltb (first_bad (bad_value gaps Q) input) (length input)) (BadValue (first_bad (bad_value gaps Q) input)) row refl f
+    refuse_follows (ltb (first_bad (bad_value gaps Q) input) (length input)) (BadValue (first_bad (bad_value gaps Q) input)) row f
 
 pub value_follows : (gaps : Bool) (Q : ℕ) (input : List ℕ) → Follows (value_check gaps Q input)
 value_follows gaps Q input = value_before gaps Q input (λ rest. rest) none_follow
@@ -136,13 +136,13 @@ value_follows gaps Q input = value_before gaps Q input (λ rest. rest) none_foll
 pub slices_follow : (gaps : Bool) (Q takes : ℕ) (input : List ℕ) (writes room : ℕ) → Follows (slice_checks gaps Q takes input writes room)
 unfolding slice_checks
 slices_follow gaps Q takes input writes room =
-    refuse_follows (not (eqb (length input) takes)) BadLength (λ rest. value_check gaps Q input (refuse (not (eqb room writes)) BadRoom rest)) refl
+    refuse_follows (not (eqb (length input) takes)) BadLength (λ rest. value_check gaps Q input (refuse (not (eqb room writes)) BadRoom rest))
     (value_before gaps Q input (refuse (not (eqb room writes)) BadRoom)
-    (refuse_follows (not (eqb room writes)) BadRoom (λ rest. rest) refl none_follow))
+    (refuse_follows (not (eqb room writes)) BadRoom (λ rest. rest) none_follow))
 
 -- how the tests of the code decide 3 and 5; o is what 4 came to
 module _ (gaps : Bool) (Q takes : ℕ) (input : List ℕ) (writes room : ℕ) (rest : Outcome) where
-  pub slices_length : (length input ≡ takes → ⊥) → slice_checks gaps Q takes input writes room rest ≡ BadLength
+  pub slices_length : (length input ≡ takes → ⊥) → slice_checks gaps Q takes input writes room rest ≡ Err BadLength
   unfolding slice_checks
   slices_length n = rw (ne_eqb (length input) takes n)
 
@@ -161,7 +161,7 @@ module _ (gaps : Bool) (Q takes : ℕ) (input : List ℕ) (writes room : ℕ) (r
       past_values : slice_checks gaps Q takes input writes room rest ≡ last
       past_values = past_length ∙ row_passed (value_check gaps Q input) (value_follows gaps Q input) o v last d
 
-      pub slices_room : (room ≡ writes → ⊥) → slice_checks gaps Q takes input writes room rest ≡ BadRoom
+      pub slices_room : (room ≡ writes → ⊥) → slice_checks gaps Q takes input writes room rest ≡ Err BadRoom
       slices_room n = past_values ∙ rw (ne_eqb room writes n)
 
       pub slices_passed : room ≡ writes → slice_checks gaps Q takes input writes room rest ≡ rest

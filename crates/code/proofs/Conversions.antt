@@ -14,9 +14,8 @@ use lib.Dec.{eqb}
 use lib.ListN.{length, get_or, length-map}
 use lib.Seq.{ext_get_or}
 use Rattle.field.specs.Curve.{is_curve, IsCurve, is_short}
-use Rattle.field.specs.Outcomes.{refuse}
-use Rattle.field.specs.declared.outcome.Outcome.{Outcome}
-use Rattle.field.specs.declared.outcome.Outcome.TheVariants.{Done, BadWork}
+use Rattle.field.specs.Outcomes.{Outcome, Done, refuse}
+use Rattle.field.specs.declared.outcome.Refusal.TheVariants.{BadWork}
 use Rattle.field.proofs.Curves.{sizes, curve_true, curve_of_true}
 use Rattle.poly.specs.Lists.{Nodup, filter}
 use Rattle.poly.specs.Messages.{all}

@@ -13,8 +13,9 @@ use native.Mathlib.Omega.{arith}
 use lib.ListN.{length, get_or, get_or-eq_default}
 use lib.Seq.{ext_get_or}
 use Rattle.field.specs.Curve.{is_curve, IsCurve}
-use Rattle.field.specs.Outcomes.{number}
-use Rattle.field.specs.declared.outcome.Outcome.TheVariants.{Done, NoMessage}
+use Rattle.std.specs.Prelude.{Err}
+use Rattle.field.specs.Outcomes.{Done, number}
+use Rattle.field.specs.declared.outcome.Refusal.TheVariants.{NoMessage}
 use Rattle.field.proofs.Curves.{sizes, curve_true, curve_of_true}
 use Rattle.field.proofs.Fields.{field_of}
 use Rattle.field.proofs.FieldLaws.{zero_lt}
@@ -41,7 +42,7 @@ use Rattle.code.proofs.WordGrids.{message_only, the_one}
 
 -- the first of the messages that have the word is one of them
 found : (l : List (List ℕ)) (slice v : List ℕ) → the_message l slice ≡ answered Done v → Mem v l
-found [] slice v e = let o : NoMessage ≡ Done = ap (λ (a : Answer). a.outcome) e in absurd (omega (arith, ap number o))
+found [] slice v e = let o : Err NoMessage ≡ Done = ap (λ (a : Answer). a.outcome) e in absurd (omega (arith, ap number o))
 found (u ∷ rest) slice v e = head (sym (ap (λ (a : Answer). a.slice) e))
 
 -- 9 is answered exactly where the list of the messages that have the word is empty

@@ -7,9 +7,9 @@ use Prim.Native.Nat.{ℕ}
 use borrow.Author.Tests.{eq-eqb, ne_eqb}
 use lib.Dec.{eqb}
 use lib.ListN.{length}
-use Rattle.field.specs.Outcomes.{number}
-use Rattle.field.specs.declared.outcome.Outcome.{Outcome}
-use Rattle.field.specs.declared.outcome.Outcome.TheVariants.{Done, BadWork}
+use Rattle.std.specs.Prelude.{Err}
+use Rattle.field.specs.Outcomes.{Outcome, Done, number}
+use Rattle.field.specs.declared.outcome.Refusal.TheVariants.{BadWork}
 use Rattle.field.proofs.Curves.{long_curve}
 use Rattle.field.proofs.Outcomes.{row_refused, row_passed}
 use Rattle.code.specs.Answers.{Answer, answered}
@@ -33,10 +33,10 @@ module _ (series m : ℕ) (broken slice : List ℕ) (work : ℕ) where
 
     module _ (d : o ≡ Done) where
       -- refused by 14
-      pub long_work : (work ≡ work_length → ⊥) → recovered_long series m broken slice work ≡ answered BadWork slice
+      pub long_work : (work ≡ work_length → ⊥) → recovered_long series m broken slice work ≡ answered (Err BadWork) slice
       unfolding recovered_long
       long_work n =
-          refused (long_checks series m broken slice work) BadWork slice _
+          refused (long_checks series m broken slice work) (Err BadWork) slice _
           (row_passed row (call_follows true true true 8 series m broken (length slice)) o e _ d ∙ rw (ne_eqb work work_length n) refl) refl
 
       pub long_passed : work ≡ work_length → recovered_long series m broken slice work ≡ answer_of (reading_of 8 series m broken) slice

@@ -3,8 +3,7 @@
 use mathlib.Core.List.{List}
 use mathlib.Core.Path.{◌≡◌, refl}
 use Prim.Native.Nat.{ℕ}
-use Rattle.field.specs.Outcomes.{packed}
-use Rattle.field.specs.declared.outcome.Outcome.{Outcome}
+use Rattle.field.specs.Outcomes.{Outcome, packed}
 use Rattle.code.specs.Answers.{Answer, answered}
 use Rattle.code.specs.Packed.{Packed}
 

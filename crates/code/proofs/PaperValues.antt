@@ -15,8 +15,7 @@ use Rattle.field.specs.Product.{times_z, combine, times, inverse}
 use Rattle.field.specs.Power.{power}
 use Rattle.field.specs.Sum.{sum}
 use Rattle.field.specs.Curve.{is_curve}
-use Rattle.field.specs.Outcomes.{number, second}
-use Rattle.field.specs.declared.outcome.Outcome.TheVariants.{Done}
+use Rattle.field.specs.Outcomes.{Done, number, second}
 use Rattle.field.proofs.Search.{of_every}
 use Rattle.poly.specs.Lists.{filter, below}
 use Rattle.poly.specs.Messages.{all}

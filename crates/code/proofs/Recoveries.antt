@@ -6,9 +6,9 @@ use mathlib.Core.Logic.{◌↔◌}
 use mathlib.Core.Path.{◌≡◌, refl, ◌∙◌}
 use Prim.Native.Nat.{ℕ, ◌*◌}
 use lib.Dec.{eqb}
-use Rattle.field.specs.Outcomes.{number, second}
-use Rattle.field.specs.declared.outcome.Outcome.{Outcome}
-use Rattle.field.specs.declared.outcome.Outcome.TheVariants.{Done, NoMessage, Several}
+use Rattle.std.specs.Prelude.{Err}
+use Rattle.field.specs.Outcomes.{Outcome, Done, number, second}
+use Rattle.field.specs.declared.outcome.Refusal.TheVariants.{NoMessage, Several}
 use Rattle.points.specs.Series.{columns_of}
 use Rattle.code.specs.Terms.{size}
 use Rattle.code.specs.Word.{word_of}
@@ -42,7 +42,7 @@ reading_of_lem nothing slice = refl
 reading_of_lem (message v) slice = refl
 reading_of_lem (several n) slice = refl
 
-pub answer_nothing : (r : Reading) (slice : List ℕ) → ((answer_of r slice).outcome ≡ NoMessage) ↔ (r ≡ nothing)
+pub answer_nothing : (r : Reading) (slice : List ℕ) → ((answer_of r slice).outcome ≡ Err NoMessage) ↔ (r ≡ nothing)
 unfolding answer_of
 answer_nothing r slice = (λ h. reading_of_lem r slice ∙ rw h, λ h. rw h)
 
@@ -50,6 +50,6 @@ pub answer_message : (r : Reading) (slice v : List ℕ) → (((answer_of r slice
 unfolding answer_of
 answer_message r slice v = (λ h. reading_of_lem r slice ∙ rw (h.0, h.1), λ h. rw h (refl, refl))
 
-pub answer_several : (r : Reading) (slice : List ℕ) (n : ℕ) → ((answer_of r slice).outcome ≡ Several n) ↔ (r ≡ several n)
+pub answer_several : (r : Reading) (slice : List ℕ) (n : ℕ) → ((answer_of r slice).outcome ≡ Err (Several n)) ↔ (r ≡ several n)
 unfolding answer_of
 answer_several r slice n = (λ h. reading_of_lem r slice ∙ rw h, λ h. rw h)

@@ -15,7 +15,9 @@ use lib.Seq.{length-take-le, get_or-take}
 use Rattle.field.proofs.Fields.{field_of}
 use Rattle.field.proofs.FieldLaws.{zero_lt}
 use Rattle.field.proofs.Curves.{sizes}
-use Rattle.field.specs.declared.outcome.Outcome.TheVariants.{Done, NoMessage}
+use Rattle.std.specs.Prelude.{Err}
+use Rattle.field.specs.Outcomes.{Done}
+use Rattle.field.specs.declared.outcome.Refusal.TheVariants.{NoMessage}
 use Rattle.poly.specs.Messages.{Vector}
 use Rattle.poly.specs.Sets.{ListOf}
 use Rattle.poly.specs.Inner.Ranges.{Below}
@@ -232,7 +234,7 @@ module _ (Fit : List ℕ → Type 0) (slice : List ℕ) where
   the_one [] h v a only = absurd (not-nil (h.whole v a))
   the_one (u ∷ rest) h v a only = ap (answered Done) (only u (h.sound u (head refl)))
 
-  pub the_none : (l : List (List ℕ)) → ListOf Fit l → ((u : List ℕ) → Fit u → ⊥) → the_message l slice ≡ answered NoMessage slice
+  pub the_none : (l : List (List ℕ)) → ListOf Fit l → ((u : List ℕ) → Fit u → ⊥) → the_message l slice ≡ answered (Err NoMessage) slice
   the_none l h none = ap (λ (l : List (List ℕ)). the_message l slice) (none_listed Fit l h none)
 
 module _ (q : ℕ) (columns word : List ℕ) (w : WordOver q columns word) (m : ℕ) (order : m < q * length columns) (grid : List ℕ)
@@ -244,7 +246,7 @@ module _ (q : ℕ) (columns word : List ℕ) (w : WordOver q columns word) (m : 
       (fitting_list (q * q) (size q m) (word_of q columns m) word) (gather q m grid)
       (has_word q columns word w m order grid g e) (only_gathered q columns word w m order grid g)
 
-  pub read_beyond : order_at_most q m (length grid) grid ≡ false → read_over q columns m word slice ≡ answered NoMessage slice
+  pub read_beyond : order_at_most q m (length grid) grid ≡ false → read_over q columns m word slice ≡ answered (Err NoMessage) slice
   read_beyond e =
       the_none (Fitting (q * q) (size q m) (word_of q columns m) word) slice (fitting (q * q) (size q m) (word_of q columns m) word)
       (fitting_list (q * q) (size q m) (word_of q columns m) word)
@@ -256,5 +258,5 @@ module _ (q : ℕ) (columns word : List ℕ) (w : WordOver q columns word) (m : 
   read_answer = go (order_at_most q m (length grid) grid) refl
     where
       go : (b : Bool) → order_at_most q m (length grid) grid ≡ b → read_over q columns m word slice ≡ grid_answer q m grid slice
-      go true e = read_within e ∙ sym (ap (λ (x : Bool). cond x (answered Done (gather q m grid)) (answered NoMessage slice)) e)
-      go false e = read_beyond e ∙ sym (ap (λ (x : Bool). cond x (answered Done (gather q m grid)) (answered NoMessage slice)) e)
+      go true e = read_within e ∙ sym (ap (λ (x : Bool). cond x (answered Done (gather q m grid)) (answered (Err NoMessage) slice)) e)
+      go false e = read_beyond e ∙ sym (ap (λ (x : Bool). cond x (answered Done (gather q m grid)) (answered (Err NoMessage) slice)) e)

@@ -1,7 +1,6 @@
 -- What a call answers, and what the slice lent to it then holds.
 use Rattle.std.specs.Prelude.{cond, List, ℕ, eqb}
-use Rattle.field.specs.Outcomes.{number}
-use Rattle.field.specs.declared.outcome.Outcome.{Outcome}
+use Rattle.field.specs.Outcomes.{Outcome, number}
 
 pub record Answer : Type 0 where
   pub outcome : Outcome

@@ -2,9 +2,8 @@
 -- the field's.
 use Rattle.std.specs.Prelude.{Bool, not, cond, List, ℕ, eqb, leb, length}
 use Rattle.field.specs.Curve.{curve_of}
-use Rattle.field.specs.Outcomes.{refuse}
-use Rattle.field.specs.declared.outcome.Outcome.{Outcome}
-use Rattle.field.specs.declared.outcome.Outcome.TheVariants.{BadCurve, BadOrder, BadLength, BadRoom, BadSeries}
+use Rattle.field.specs.Outcomes.{Outcome, refuse}
+use Rattle.field.specs.declared.outcome.Refusal.TheVariants.{BadCurve, BadOrder, BadLength, BadRoom, BadSeries}
 use Rattle.points.specs.Series.{is_series}
 use Rattle.code.specs.Terms.{size}
 pub use Rattle.field.specs.Values.{bad_value, value_check}

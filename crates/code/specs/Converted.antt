@@ -2,8 +2,7 @@
 -- the other, either way, which keeps missing marks, takes no order and serves all three curves".
 use Rattle.std.specs.Prelude.{Bool, true, ◌&&◌, cond, List, [], ◌∷◌, map, ℕ, suc, eqb, length, get_or}
 use Rattle.field.specs.Curve.{is_curve, curve_of}
-use Rattle.field.specs.declared.outcome.Outcome.{Outcome}
-use Rattle.field.specs.declared.outcome.Outcome.TheVariants.{Done}
+use Rattle.field.specs.Outcomes.{Outcome, Done}
 use Rattle.points.specs.Points.{points_on}
 use Rattle.points.specs.Series.{other_series, columns_of}
 use Rattle.code.specs.Checks.{curve_checks, slice_checks}

@@ -1,8 +1,7 @@
 -- Encoding, for every argument.
 use Rattle.std.specs.Prelude.{false, List, ℕ, length}
 use Rattle.field.specs.Curve.{is_curve}
-use Rattle.field.specs.declared.outcome.Outcome.{Outcome}
-use Rattle.field.specs.declared.outcome.Outcome.TheVariants.{Done}
+use Rattle.field.specs.Outcomes.{Outcome, Done}
 use Rattle.points.specs.Series.{columns_of}
 use Rattle.code.specs.Word.{word_of}
 use Rattle.code.specs.Checks.{call_checks}

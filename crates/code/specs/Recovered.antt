@@ -1,8 +1,9 @@
 -- Recovery of short blocks, for every argument.
 use Rattle.std.specs.Prelude.{true, List, [], ◌∷◌, ℕ, length}
 use Rattle.field.specs.Curve.{is_short, curve_of}
-use Rattle.field.specs.declared.outcome.Outcome.{Outcome}
-use Rattle.field.specs.declared.outcome.Outcome.TheVariants.{Done, NoMessage, Several}
+use Rattle.std.specs.Prelude.{Err}
+use Rattle.field.specs.Outcomes.{Outcome, Done}
+use Rattle.field.specs.declared.outcome.Refusal.TheVariants.{NoMessage, Several}
 use Rattle.points.specs.Series.{columns_of}
 use Rattle.code.specs.Terms.{size}
 use Rattle.code.specs.Word.{word_of}
@@ -27,9 +28,9 @@ reading Q k word broken = read Q (fitting Q k word broken)
 
 -- "9. No message fits. 10. Two or more messages fit; the second number is r, where exactly Q to the power r fit."
 unfoldable pub answer_of : Reading → List ℕ → Answer
-answer_of nothing slice = answered NoMessage slice
+answer_of nothing slice = answered (Err NoMessage) slice
 answer_of (message v) slice = answered Done v
-answer_of (several r) slice = answered (Several r) slice
+answer_of (several r) slice = answered (Err (Several r)) slice
 
 -- 1, 17, 2, 3, 4 (255 allowed), 5
 abbrev pub recover_checks : ℕ → ℕ → ℕ → List ℕ → List ℕ → Outcome

@@ -2,9 +2,8 @@
 -- 262,144 bytes" (T-09).
 use Rattle.std.specs.Prelude.{true, false, not, ◌||◌, List, ◌≡◌, ℕ, eqb, length}
 use Rattle.field.specs.Curve.{curve_of}
-use Rattle.field.specs.Outcomes.{number, refuse}
-use Rattle.field.specs.declared.outcome.Outcome.{Outcome}
-use Rattle.field.specs.declared.outcome.Outcome.TheVariants.{Done, BadWork}
+use Rattle.field.specs.Outcomes.{Outcome, Done, number, refuse}
+use Rattle.field.specs.declared.outcome.Refusal.TheVariants.{BadWork}
 use Rattle.points.specs.Series.{columns_of}
 use Rattle.code.specs.Terms.{size}
 use Rattle.code.specs.Word.{word_of}

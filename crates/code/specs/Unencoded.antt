@@ -2,8 +2,9 @@
 -- messages: it gives the message whose word the word is, and refuses exactly where there is none.
 use Rattle.std.specs.Prelude.{true, false, List, [], ◌∷◌, ℕ, length}
 use Rattle.field.specs.Curve.{is_curve, curve_of}
-use Rattle.field.specs.declared.outcome.Outcome.{Outcome}
-use Rattle.field.specs.declared.outcome.Outcome.TheVariants.{Done, NoMessage}
+use Rattle.std.specs.Prelude.{Err}
+use Rattle.field.specs.Outcomes.{Outcome, Done}
+use Rattle.field.specs.declared.outcome.Refusal.TheVariants.{NoMessage}
 use Rattle.points.specs.Series.{columns_of}
 use Rattle.code.specs.Terms.{size}
 use Rattle.code.specs.Word.{word_of}
@@ -17,7 +18,7 @@ unencode_checks q series m word slice = call_checks (is_curve q) false true q se
 
 -- of the messages that have the word (never two), the one
 abbrev pub the_message : List (List ℕ) → List ℕ → Answer
-the_message [] slice = answered NoMessage slice
+the_message [] slice = answered (Err NoMessage) slice
 the_message (message ∷ rest) slice = answered Done message
 
 unfoldable pub unencoded : ℕ → ℕ → ℕ → List ℕ → List ℕ → Answer

@@ -18,14 +18,12 @@ pub fn move_columns(q: u8, from: &[u8], to: &[u8], word: &[u8], out: &mut [u8])
     ensures { Moved q from.now to.now word.now out.old out.new (length from.now) }
 {
     let width = q as usize;
-    let mut t = 0;
-    while t < from.len() {
+    for t in 0..from.len() {
         let at = width * (from[t] as usize);
         let end = at + width;
         let new = width * (to[t] as usize);
         let new_end = new + width;
         rows::copy(width, &word[at..end], &mut out[new..new_end]);
-        t += 1;
     }
 }
 
@@ -49,6 +47,7 @@ fn convert_short(q: u8, series: u8, word: &[u8], out: &mut [u8])
     move_columns(q, &from[..c], &to[..c], word, out);
 }
 
+// kept: a function of its own, as all of long blocks: see `known_long_grid` in `recovery`.
 fn convert_long(series: u8, word: &[u8], out: &mut [u8])
     requires { (length word.now ≡ 512) × (length out.old ≡ 512) }
     ensures { out.new ≡ relisted 8 (columns_of 8 series) (columns_of 8 (other_series series)) word.now }
@@ -63,10 +62,7 @@ fn convert_long(series: u8, word: &[u8], out: &mut [u8])
 fn check_call(q: u8, series: u8, word: &[u8], room: usize) -> Outcome
     ensures { result ≡ convert_checks q series word.now room }
 {
-    let first = check::curve(field::curve::is_curve(q), series);
-    let Outcome::Done = first else {
-        return first;
-    };
+    check::curve(field::curve::is_curve(q), series)?;
     let curve = Curve::at(q);
     let n = curve.points;
     check::slices(true, curve.symbols, n, word, n, room)
@@ -76,14 +72,11 @@ fn check_call(q: u8, series: u8, word: &[u8], room: usize) -> Outcome
 pub fn convert(q: u8, series: u8, word: &[u8], out: &mut [u8]) -> Outcome
     ensures { converted q series word.now out.old ≡ answered result out.new }
 {
-    let checked = check_call(q, series, word, out.len());
-    let Outcome::Done = checked else {
-        return checked;
-    };
+    check_call(q, series, word, out.len())?;
     if q == 8 {
         convert_long(series, word, out);
     } else {
         convert_short(q, series, word, out);
     }
-    Outcome::Done
+    Ok(())
 }

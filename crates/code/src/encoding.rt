@@ -14,6 +14,7 @@ ghost use Rattle.code.specs.Encoded.{encoded};
 
 use crate::{check, grid, long_block, term};
 use field::Outcome;
+use field::symbol::{LongBlocks, ShortBlocks};
 use poly::{lanes, polynomial, rows};
 
 // The first stage: each y^j's polynomial in x, with n coefficients, at every column; row j of rows, sixteen lanes, is for y^j.
@@ -25,19 +26,17 @@ fn evaluate_rows(q: u8, columns: &[u8], n: usize, grid: &[u8], rows: &mut [u8])
     let width = q as usize;
     let mut places = [0u8; 16];
     rows::copy(columns.len(), columns, &mut places);
-    let mut j = 0;
     let mut at = 0;
-    while j < width {
+    for j in 0..width {
         let end = at + 16;
         let k = polynomial::terms(grid, j, width, n);
         let row = if q == 8 {
-            polynomial::evaluate_long(grid, j, width, k, &places)
+            polynomial::evaluate::<LongBlocks>(q, grid, j, width, k, &places)
         } else {
-            polynomial::evaluate_short(q, grid, j, width, k, &places)
+            polynomial::evaluate::<ShortBlocks>(q, grid, j, width, k, &places)
         };
         rows::copy(16, &row, &mut rows[at..end]);
         at = end;
-        j += 1;
     }
 }
 
@@ -49,9 +48,9 @@ fn evaluate_column(q: u8, ys: &[u8; 16], rows: &[u8], t: usize, part: &mut [u8])
 {
     let width = q as usize;
     let values = if q == 8 {
-        polynomial::evaluate_long(rows, t, 16, width, ys)
+        polynomial::evaluate::<LongBlocks>(q, rows, t, 16, width, ys)
     } else {
-        polynomial::evaluate_short(q, rows, t, 16, width, ys)
+        polynomial::evaluate::<ShortBlocks>(q, rows, t, 16, width, ys)
     };
     lanes::store(&values, part);
 }
@@ -64,15 +63,13 @@ fn evaluate_columns(q: u8, all: &[u8], columns: &[u8], rows: &[u8], word: &mut [
 {
     let width = q as usize;
     let c = columns.len();
-    let mut t = 0;
     let mut at = 0;
-    while t < c {
+    for t in 0..c {
         let from = width * (columns[t] as usize);
         let end = at + width;
         let ys = lanes::take(all, from);
         evaluate_column(q, &ys, rows, t, &mut word[at..end]);
         at = end;
-        t += 1;
     }
 }
 
@@ -132,19 +129,19 @@ fn write_columns(q: u8, all: &[u8], columns: &[u8], n: usize, grid: &[u8], word:
 }
 
 // Both stages over all columns of a long block, sixteen at a time.
+// kept: a function of its own, as all of long blocks: see `known_long_grid` in `recovery`.
 fn write_long_columns(series: u8, n: usize, grid: &[u8], word: &mut [u8])
     requires { Below (field_of 8).size grid.now × (1 ≤ n) × (8 * n ≤ length grid.now) × (length word.old ≡ 512) }
     ensures { Blocks 8 (grid_column 8 (columns_of 8 series) n grid.now) word.new 64 }
 {
     let all = points::padded_long_ys();
     let columns = points::long_columns(series);
-    let mut from = 0;
-    while from < 64 {
+    for part in 0..4 {
+        let from = 16 * part;
         let to = from + 16;
         let at = 8 * from;
         let end = 8 * to;
         write_columns(8, &all, &columns[from..to], n, grid, &mut word[at..end]);
-        from = to;
     }
 }
 
@@ -166,13 +163,10 @@ pub fn encode(q: u8, series: u8, m: u16, message: &[u8], word: &mut [u8]) -> Out
 {
     let order = m as usize;
     let taken = field::curve::is_curve(q);
-    let checked = check::call(taken, false, false, q, series, order, message, word.len());
-    let Outcome::Done = checked else {
-        return checked;
-    };
+    check::call(taken, false, false, q, series, order, message, word.len())?;
     if q == 8 {
         return long_block::run(false, series, order, message, word);
     }
     write_word(q, series, order, message, word);
-    Outcome::Done
+    Ok(())
 }

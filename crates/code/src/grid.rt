@@ -14,11 +14,9 @@ pub fn scatter(q: u8, m: usize, message: &[u8], grid: &mut [u8])
     requires grid_value { grid.old ≡ replicate (length grid.old) 0 }
     ensures { grid.new ≡ scatter q (length grid.old) m message.now }
 {
-    let mut n = 0;
-    while n < message.len() {
+    for n in 0..message.len() {
         let e = term::entry(q, n);
         grid[e] = message[n];
-        n += 1;
     }
 }
 
@@ -27,11 +25,9 @@ pub fn gather(q: u8, m: usize, grid: &[u8], message: &mut [u8])
     requires { IsCurve q × (m < length grid.now) × (length message.old ≡ size q m) }
     ensures { message.new ≡ gather q m grid.now }
 {
-    let mut n = 0;
-    while n < message.len() {
+    for n in 0..message.len() {
         let e = term::entry(q, n);
         message[n] = grid[e];
-        n += 1;
     }
 }
 
@@ -42,11 +38,9 @@ pub fn gather_listed(entries: &[u16], grid: &[u8], out: &mut [u8])
     ensures { out.new ≡ writes out.old (length entries.now)
         (listed entries.now grid.now) }
 {
-    let mut n = 0;
-    while n < entries.len() {
+    for n in 0..entries.len() {
         let e = entries[n] as usize;
         out[n] = grid[e];
-        n += 1;
     }
 }
 
@@ -58,8 +52,7 @@ pub fn order_at_most(q: u8, m: usize, grid: &[u8]) -> bool
 {
     let curve = Curve::at(q);
     let more = curve.symbols as usize;
-    let mut e = if more <= m { m - more } else { 0 };
-    while e < grid.len() {
+    for e in if more <= m { m - more } else { 0 }..grid.len() {
         if m < e {
             return check::highest(&grid[e..]) == 0;
         }
@@ -69,7 +62,6 @@ pub fn order_at_most(q: u8, m: usize, grid: &[u8]) -> bool
                 return false;
             }
         }
-        e += 1;
     }
     true
 }

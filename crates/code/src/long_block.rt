@@ -1,5 +1,6 @@
 // Encoding and unencoding of long blocks, past the checks. One function for both: with two callers the compiler keeps it a call, and its
 // arrays out of the frames of short blocks.
+// kept: so it has a flag that says which of the two to run, since the memory is fixed.
 ghost use Rattle.std.specs.Prelude.{true, false, ◌≡◌};
 ghost use Rattle.points.specs.Series.{columns_of};
 ghost use Rattle.code.specs.Answers.{answered};
@@ -19,5 +20,5 @@ pub fn run(decodes: bool, series: u8, m: usize, input: &[u8], output: &mut [u8])
         return unencoding::read_long_word(series, m, input, output);
     }
     encoding::write_long_word(series, m, input, output);
-    Outcome::Done
+    Ok(())
 }

@@ -60,6 +60,7 @@ fn low_weight(q: u8, n: usize) -> usize
     let width = q as usize;
     let mut row = 0;
     let mut before = 0;
+    // kept: the loop ends by the number of terms before the row; a `for` would need a bound on the rows, and a way out.
     while before + row < n {
         row += 1;
         before += row;
@@ -96,9 +97,7 @@ pub fn entries(q: u8, m: usize, list: &mut [u16])
     ensures { list.new ≡ writes list.old (size q m) (λ n. get_or (entries_of q m) n 0) }
 {
     let k = size(q, m);
-    let mut n = 0;
-    while n < k {
+    for n in 0..k {
         list[n] = entry(q, n) as u16;
-        n += 1;
     }
 }

@@ -11,7 +11,7 @@ ghost use Rattle.code.specs.Inner.Readable.{WordOver, InterpolatedInY, GridInFro
 ghost use Rattle.code.specs.Unencoded.{unencoded};
 
 use crate::{check, grid, long_block};
-use field::Outcome;
+use field::{Outcome, Refusal};
 use poly::{interpolation, lanes, root_interpolation, rows};
 
 // The first stage: each column's polynomial in y, from that column's part of the word. Column t's sixteen numbers of work stand from 16·t on.
@@ -21,17 +21,15 @@ fn interpolate_columns(q: u8, all: &[u8], columns: &[u8], word: &[u8], work: &mu
     ensures { InterpolatedInY q columns.now word.now work.new }
 {
     let width = q as usize;
-    let mut t = 0;
     let mut at = 0;
     let mut row = 0;
-    while t < columns.len() {
+    for t in 0..columns.len() {
         let ys = lanes::take(all, width * (columns[t] as usize));
         let end = at + width;
         let to = row + 16;
         root_interpolation::interpolate(q, &ys, &word[at..end], &mut work[row..to]);
         at = end;
         row = to;
-        t += 1;
     }
 }
 
@@ -64,17 +62,12 @@ pub fn interpolate_over(q: u8, columns: &[u8], tree: &[u8], word: &[u8]) -> [u8;
     r
 }
 
-// The same over all columns. The tree is assigned, since one picked by an expression has room twice.
+// The same over all columns.
 pub fn interpolate_short(q: u8, series: u8, word: &[u8]) -> [u8; 64]
     requires { WordOver q (columns_of q series) word.now × IsShort q }
     ensures { GridInFront q (columns_of q series) word.now result × (length result ≡ 64) }
 {
-    let mut tree = points::tree_4();
-    if q == 2 {
-        tree = points::tree_2();
-    } else if series == 2 {
-        tree = points::tree_4_by_powers();
-    }
+    let tree = points::tree(q, series);
     let columns = points::columns(q, series);
     let width = q as usize;
     let c = width * width;
@@ -82,6 +75,7 @@ pub fn interpolate_short(q: u8, series: u8, word: &[u8]) -> [u8; 64]
 }
 
 // The grid of a long block's word.
+// kept: a function of its own, as all of long blocks: see `known_long_grid` in `recovery`.
 pub fn interpolate_long(series: u8, word: &[u8]) -> [u8; 512]
     requires { WordOver 8 (columns_of 8 series) word.now }
     ensures { GridInFront 8 (columns_of 8 series) word.now result × (length result ≡ 512) }
@@ -103,9 +97,9 @@ pub fn read_grid(q: u8, m: usize, grid: &[u8], message: &mut [u8]) -> Outcome
 {
     if grid::order_at_most(q, m, grid) {
         grid::gather(q, m, grid, message);
-        return Outcome::Done;
+        return Ok(());
     }
-    Outcome::NoMessage
+    Err(Refusal::NoMessage)
 }
 
 // The message of a short block's word.
@@ -133,10 +127,7 @@ pub fn unencode(q: u8, series: u8, m: u16, word: &[u8], message: &mut [u8]) -> O
 {
     let order = m as usize;
     let taken = field::curve::is_curve(q);
-    let checked = check::call(taken, false, true, q, series, order, word, message.len());
-    let Outcome::Done = checked else {
-        return checked;
-    };
+    check::call(taken, false, true, q, series, order, word, message.len())?;
     if q == 8 {
         return long_block::run(true, series, order, word, message);
     }

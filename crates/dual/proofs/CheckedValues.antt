@@ -20,7 +20,7 @@ use Rattle.code.specs.Word.{value_at, word_of}
 use Rattle.code.proofs.PaperValues.{Row}
 use Rattle.dual.specs.Partner.{partner}
 use Rattle.dual.specs.Checked.{is_orthogonal, check_checks, checked}
-use Rattle.dual.specs.declared.Verdict.{Verdict}
+use Rattle.dual.specs.Checked.{Verdict}
 
 -- a verdict as numbers: those of the outcome, and 1 for yes
 abbrev numbers : Verdict → List ℕ

@@ -9,9 +9,9 @@ use borrow.Author.Tests.{lt-ltb, le-ltb, ltb-false, eq-eqb, ne_eqb, eqb-true, no
 use lib.Dec.{eqb, ltb}
 use lib.ListN.{length, get_or}
 use Rattle.field.specs.Curve.{is_curve, IsCurve, curve_of}
-use Rattle.field.specs.Outcomes.{number}
-use Rattle.field.specs.declared.outcome.Outcome.{Outcome}
-use Rattle.field.specs.declared.outcome.Outcome.TheVariants.{Done, BadOrder, BadLength, LowOrder}
+use Rattle.std.specs.Prelude.{Err}
+use Rattle.field.specs.Outcomes.{Outcome, Done, number}
+use Rattle.field.specs.declared.outcome.Refusal.TheVariants.{BadOrder, BadLength, LowOrder}
 use Rattle.field.proofs.Curves.{each_curve, sizes, curve_true, curve_of_true}
 use Rattle.field.proofs.Outcomes.{passed, row_not_done}
 use Rattle.poly.specs.Messages.{Vector}
@@ -36,18 +36,18 @@ module _ (q series m : ℕ) (word : List ℕ) where
   unfolding check_checks
   refused_order o e n = row_not_done (order_checks (is_curve q) q series m) (order_follows (is_curve q) q series m) o e _ n
 
-  pub refused_high : IsCurve q → is_series series ≡ true → q * q * q ≤ m → check_checks q series m word ≡ BadOrder
+  pub refused_high : IsCurve q → is_series series ≡ true → q * q * q ≤ m → check_checks q series m word ≡ Err BadOrder
   unfolding check_checks
   refused_high curve named h = order_high q series m named h (is_curve q) (curve_true q curve) _
 
   -- past them
   module _ (curve : IsCurve q) (named : is_series series ≡ true) (order : m < q * q * q) where
-    pub refused_low : m < 2 * (curve_of q).genus - 1 → LowOrder ≡ check_checks q series m word
+    pub refused_low : m < 2 * (curve_of q).genus - 1 → Err LowOrder ≡ check_checks q series m word
     unfolding check_checks
     refused_low l = sym (order_passed (is_curve q) q series m _ (curve_true q curve) named order ∙ rw (lt-ltb m (2 * (curve_of q).genus - 1) l))
 
     module _ (high : 2 * (curve_of q).genus - 1 ≤ m) where
-      pub refused_length : (length word ≡ q * q * q → ⊥) → BadLength ≡ check_checks q series m word
+      pub refused_length : (length word ≡ q * q * q → ⊥) → Err BadLength ≡ check_checks q series m word
       unfolding check_checks
       refused_length d =
           sym (order_passed (is_curve q) q series m _ (curve_true q curve) named order
@@ -73,8 +73,8 @@ module _ (q series m : ℕ) (word : List ℕ) where
   unfolding check_checks
   checks_passed e =
       let (taken, order, rest, named) = order_rest (is_curve q) q series m _ e in
-      let (low, e1) = passed (ltb m (2 * (curve_of q).genus - 1)) _ LowOrder (λ p. omega (arith, ap number p)) rest in
-      let (length_is, e2) = passed (not (eqb (length word) (q * q * q))) _ BadLength (λ p. omega (arith, ap number p)) e1 in
+      let (low, e1) = passed (ltb m (2 * (curve_of q).genus - 1)) _ LowOrder rest in
+      let (length_is, e2) = passed (not (eqb (length word) (q * q * q))) _ BadLength e1 in
       let long = eqb-true (length word) (q * q * q) (not-false (eqb (length word) (q * q * q)) length_is) in
       let (good, _) = value_rest false (q * q) word Done e2 in
       record {

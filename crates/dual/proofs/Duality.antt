@@ -14,7 +14,7 @@ use native.Mathlib.Omega.{arith}
 use lib.ListN.{length, get_or}
 use Rattle.field.specs.Sum.{sum}
 use Rattle.field.specs.Curve.{IsCurve, curve_of}
-use Rattle.field.specs.declared.outcome.Outcome.TheVariants.{Done}
+use Rattle.field.specs.Outcomes.{Done}
 use Rattle.field.proofs.FieldLaws.{zero_times, times_zero}
 use Rattle.field.proofs.Sums.{sum_cong, sum_single}
 use Rattle.field.proofs.Fields.{field_of}

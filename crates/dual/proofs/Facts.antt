@@ -9,9 +9,10 @@ use Prim.Native.Nat.{ℕ, ◌-◌, ◌*◌, ◌≤◌}
 use native.Mathlib.Omega.{arith}
 use lib.Dec.{eqb, leb, ltb}
 use lib.ListN.{length}
+use Rattle.std.specs.Prelude.{Err}
 use Rattle.field.specs.Curve.{is_curve, IsCurve, curve_of}
-use Rattle.field.specs.Outcomes.{number, refuse}
-use Rattle.field.specs.declared.outcome.Outcome.TheVariants.{Done, BadCurve, BadOrder, BadLength, BadValue, BadSeries, LowOrder}
+use Rattle.field.specs.Outcomes.{Done, number, refuse}
+use Rattle.field.specs.declared.outcome.Refusal.TheVariants.{BadCurve, BadOrder, BadLength, BadValue, BadSeries, LowOrder}
 use Rattle.points.specs.Series.{is_series, columns_of}
 use Rattle.code.specs.Checks.{curve_checks, order_checks, bad_value, first_bad}
 use Rattle.code.specs.Terms.{size}
@@ -19,7 +20,7 @@ use Rattle.code.specs.Unencoded.{unencoded}
 use Rattle.dual.specs.Partner.{partner}
 use Rattle.dual.specs.Orthogonal.{Codeword, Orthogonal}
 use Rattle.dual.specs.Checked.{is_orthogonal, check_checks, checked}
-use Rattle.dual.specs.declared.Verdict.{Verdict}
+use Rattle.dual.specs.Checked.{Verdict}
 use Rattle.dual.proofs.Duality.{codeword_exactly, orthogonal_unencoded}
 use Rattle.dual.proofs.Verdicts.{orthogonal_of_test, test_of_orthogonal}
 use Rattle.dual.proofs.Checking.{checks_passed, refused_high, says_no, says}
@@ -80,5 +81,5 @@ module _ (q series m : ℕ) (word : List ℕ) where
       (ltb bad (length word)) bad
 
   -- an order of n or more meets 2, whatever the word (T-08)
-  pub checked_high : IsCurve q → is_series series ≡ true → q * q * q ≤ m → checked q series m word ≡ record { codeword = false; outcome = BadOrder }
-  checked_high curve named h = sym (says_no q series m word BadOrder (sym (refused_high q series m word curve named h)) refl)
+  pub checked_high : IsCurve q → is_series series ≡ true → q * q * q ≤ m → checked q series m word ≡ record { codeword = false; outcome = Err BadOrder }
+  checked_high curve named h = sym (says_no q series m word (Err BadOrder) (sym (refused_high q series m word curve named h)) refl)

@@ -5,34 +5,24 @@
 ghost use Rattle.std.specs.Prelude.{◌≡◌, ◌<◌};
 ghost use Rattle.points.specs.Series.{columns_of};
 ghost use Rattle.code.specs.Inner.Readable.{WordOver};
-ghost use Rattle.dual.specs.Checked.{is_orthogonal, check_checks, checked};
+ghost use Rattle.dual.specs.Checked.{is_orthogonal, check_checks, told, checked};
 
 use code::check;
-use field::{Curve, Outcome};
+use field::{Curve, Outcome, Refusal};
 
 pub mod term_sums;
-
-// Whether the word is a codeword, which is said only where the check isn't refused, and the outcome.
-#[derive(Clone, Copy)]
-pub struct Verdict {
-    pub codeword: bool,
-    pub outcome: Outcome,
-}
 
 // 1, 17, 2, 19, 3 and 4.
 fn check_call(q: u8, series: u8, m: usize, word: &[u8]) -> Outcome
     ensures { result ≡ check_checks q series m word.now }
 {
-    let first = check::order(field::curve::is_curve(q), q, series, m);
-    let Outcome::Done = first else {
-        return first;
-    };
+    check::order(field::curve::is_curve(q), q, series, m)?;
     let curve = Curve::at(q);
     if m < 2 * curve.genus - 1 {
-        return Outcome::LowOrder;
+        return Err(Refusal::LowOrder);
     }
     if word.len() != curve.points {
-        return Outcome::BadLength;
+        return Err(Refusal::BadLength);
     }
     check::values(false, curve.symbols, word)
 }
@@ -49,21 +39,12 @@ fn is_orthogonal(q: u8, series: u8, m: usize, word: &[u8]) -> bool
 }
 
 // Whether a word, in the order of the series' points, is that of a message of order m.
-pub fn check(q: u8, series: u8, m: u16, word: &[u8]) -> Verdict
-    ensures { result ≡ checked q series m word.now }
+pub fn check(q: u8, series: u8, m: u16, word: &[u8]) -> Result<bool, Refusal>
+    ensures { checked q series m word.now ≡ told result }
 {
     let order = m as usize;
-    let outcome = check_call(q, series, order, word);
-    let Outcome::Done = outcome else {
-        return Verdict {
-            codeword: false,
-            outcome,
-        };
-    };
+    check_call(q, series, order, word)?;
     let curve = Curve::at(q);
     let partner = curve.points + 2 * curve.genus - 2 - order;
-    Verdict {
-        codeword: is_orthogonal(q, series, partner, word),
-        outcome: Outcome::Done,
-    }
+    Ok(is_orthogonal(q, series, partner, word))
 }

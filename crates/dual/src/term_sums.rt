@@ -15,6 +15,7 @@ ghost use Rattle.code.specs.Inner.Encodable.{Staged};
 ghost use Rattle.code.specs.Inner.Readable.{WordOver};
 ghost use Rattle.dual.specs.Inner.StagedSums.{column_sum, SummedInY, sum_by_power_of_x, staged_sum, PowersVanish, TermsVanish, Tells, long_entry};
 
+use field::symbol::{LongBlocks, ShortBlocks};
 use poly::{lanes, rows};
 
 // The y number s of each column, a lane for each.
@@ -25,10 +26,8 @@ fn take_ys(q: u8, all: &[u8], columns: &[u8], s: usize) -> [u8; 16]
 {
     let width = q as usize;
     let mut r = [0u8; 16];
-    let mut t = 0;
-    while t < columns.len() {
+    for t in 0..columns.len() {
         r[t] = all[width * (columns[t] as usize) + s];
-        t += 1;
     }
     r
 }
@@ -40,10 +39,8 @@ fn take_symbols(q: u8, c: usize, word: &[u8], s: usize) -> [u8; 16]
 {
     let width = q as usize;
     let mut r = [0u8; 16];
-    let mut t = 0;
-    while t < c {
+    for t in 0..c {
         r[t] = word[width * t + s];
-        t += 1;
     }
     r
 }
@@ -58,14 +55,12 @@ fn add_powers(q: u8, places: &[u8; 16], values: [u8; 16], rows: &mut [u8])
 {
     let width = q as usize;
     let mut v = values;
-    let mut j = 0;
     let mut at = 0;
-    while j < width {
+    for j in 0..width {
         let end = at + 16;
         rows::add(16, &v, &mut rows[at..end]);
         v = lanes::multiply(q, places, &v);
         at = end;
-        j += 1;
     }
 }
 
@@ -77,12 +72,10 @@ fn sum_in_y(q: u8, all: &[u8], columns: &[u8], word: &[u8], rows: &mut [u8])
 {
     let width = q as usize;
     let c = columns.len();
-    let mut s = 0;
-    while s < width {
+    for s in 0..width {
         let ys = take_ys(q, all, columns, s);
         let values = take_symbols(q, c, word, s);
         add_powers(q, &ys, values, rows);
-        s += 1;
     }
 }
 
@@ -94,12 +87,13 @@ fn row_vanishes(q: u8, m: usize, j: usize, places: &[u8; 16], row: [u8; 16]) -> 
 {
     let width = q as usize;
     let mut v = row;
+    // kept: the loop goes by the weight of the next term; a `for` over the powers of x would need their number, by a division.
     let mut w = width * j + j;
     while w + width <= m {
         if lanes::sum(&v) != 0 {
             return false;
         }
-        v = lanes::multiply_short(q, places, &v);
+        v = lanes::multiply_in::<ShortBlocks>(q, places, &v);
         w += width;
     }
     if m < w {
@@ -115,13 +109,11 @@ fn rows_vanish(q: u8, m: usize, columns: &[u8], rows: &[u8]) -> bool
 {
     let width = q as usize;
     let places = lanes::load(columns);
-    let mut j = 0;
-    while j < width {
+    for j in 0..width {
         let row = lanes::take(rows, 16 * j);
         if !row_vanishes(q, m, j, &places, row) {
             return false;
         }
-        j += 1;
     }
     true
 }
@@ -159,6 +151,7 @@ fn sum_of_four(a: &[u8; 16], b: &[u8; 16], c: &[u8; 16], d: &[u8; 16]) -> u8
 }
 
 // The first stage of a long block, sixteen columns at a time.
+// kept: a function of its own, as all of long blocks: see `known_long_grid` in `recovery`.
 fn sum_long_in_y(columns: &[u8], word: &[u8], rows: &mut [u8])
     requires word_over { WordOver 8 columns.now word.now × (length columns.now ≡ 64) }
     requires rows_len { (length rows.old ≡ 512) × ((i : ℕ) → get_or rows.old i 0 ≡ 0) }
@@ -166,8 +159,8 @@ fn sum_long_in_y(columns: &[u8], word: &[u8], rows: &mut [u8])
         × Below (field_of 8).size rows.new }
 {
     let all = points::padded_long_ys();
-    let mut from = 0;
-    while from < 64 {
+    for part in 0..4 {
+        let from = 16 * part;
         let to = from + 16;
         let at = 8 * from;
         let end = 8 * to;
@@ -178,7 +171,6 @@ fn sum_long_in_y(columns: &[u8], word: &[u8], rows: &mut [u8])
             &word[at..end],
             &mut rows[at..end],
         );
-        from = to;
     }
 }
 
@@ -197,15 +189,16 @@ fn long_row_vanishes(m: usize, j: usize, columns: &[u8], rows: &[u8]) -> bool
     let mut b = lanes::take(rows, at + 128);
     let mut c = lanes::take(rows, at + 256);
     let mut d = lanes::take(rows, at + 384);
+    // kept: as in `row_vanishes`.
     let mut w = 9 * j;
     while w + 8 <= m {
         if sum_of_four(&a, &b, &c, &d) != 0 {
             return false;
         }
-        a = lanes::multiply_long(&xa, &a);
-        b = lanes::multiply_long(&xb, &b);
-        c = lanes::multiply_long(&xc, &c);
-        d = lanes::multiply_long(&xd, &d);
+        a = lanes::multiply_in::<LongBlocks>(8, &xa, &a);
+        b = lanes::multiply_in::<LongBlocks>(8, &xb, &b);
+        c = lanes::multiply_in::<LongBlocks>(8, &xc, &c);
+        d = lanes::multiply_in::<LongBlocks>(8, &xd, &d);
         w += 8;
     }
     if m < w {
@@ -220,12 +213,10 @@ fn long_rows_vanish(m: usize, columns: &[u8], rows: &[u8]) -> bool
     requires columns_len { (length columns.now ≡ 64) × (length rows.now ≡ 512) }
     ensures { Tells result (TermsVanish 8 m (λ i j. sum_by_power_of_x 64 8 columns.now i (long_entry rows.now j))) }
 {
-    let mut j = 0;
-    while j < 8 {
+    for j in 0..8 {
         if !long_row_vanishes(m, j, columns, rows) {
             return false;
         }
-        j += 1;
     }
     true
 }

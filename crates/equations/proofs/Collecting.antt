@@ -1,6 +1,5 @@
 -- Symbols that are brought in one after the other: what each step leaves, and what is left at the end.
 -- Assumes nothing.
-use mathlib.Core.Bool.{true}
 use mathlib.Core.List.{List}
 use mathlib.Core.Logic.{◌↔◌}
 use mathlib.Core.Path.{◌≡◌, refl, sym, ap, ◌∙◌}
@@ -9,6 +8,7 @@ use native.Mathlib.Decide.{ℕ_discrete}
 use native.Mathlib.Omega.{arith}
 use borrow.Author.Tests.{eq-eqb, ne_eqb}
 use lib.ListN.{length, get_or}
+use Rattle.std.specs.Prelude.{None}
 use Rattle.field.proofs.Fields.{field_of}
 use Rattle.field.proofs.FieldLaws.{zero_lt}
 use Rattle.poly.specs.Inner.Linear.{entry, dot, Holds}
@@ -54,9 +54,9 @@ module _ (q : ℕ) (columns : List ℕ) (m : ℕ) where
     taken_redundant r n f h =
         record { formed = f; ranked = λ e. e ∙ ap (λ (x : List ℕ). rank (size q m) (flat 64 (size q m) x)) (sym h.1); both = joined_fits n h.0 }
 
-    pub clash : (r r' : ℕ) → (s ≡ 255 → ⊥) → Brought (field_of q) 64 (size q m) work (equation_of q columns m p s) work' Contradiction
-        → Advanced q columns m p s r work work' true r'
-    clash r r' n h v a b = h.0.never v a (to_holds v n b)
+    pub clash : (r : ℕ) → (s ≡ 255 → ⊥) → Brought (field_of q) 64 (size q m) work (equation_of q columns m p s) work' Contradiction
+        → Advanced q columns m p s r work work' None
+    clash r n h v a b = h.0.never v a (to_holds v n b)
 
   pub taken_gap : (p s r : ℕ) (work : List ℕ) → s ≡ 255 → WellFormed (field_of q) 64 (size q m) work → Taken q columns m p s r work work r
   taken_gap p s r work e f = record { formed = f; ranked = λ h. h; both = λ v. (λ b. b.0, λ b. (b, λ n. absurd (n e))) }

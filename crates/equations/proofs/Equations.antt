@@ -9,21 +9,21 @@ use native.Mathlib.Decide.{ℕ_discrete}
 use native.Mathlib.Omega.{arith}
 use borrow.Author.Tests.{eq-eqb, ne_eqb}
 use borrow.Rule.Slice.PartMut.{put_mid}
-use lib.ListN.{length, get_or, set, replicate}
-use lib.Seq.{get_or-set_same, get_or-set_other}
+use lib.ListN.{length, get_or, set, take, replicate}
+use Rattle.std.proofs.lemmas.List.{get_or-take}
+use lib.Seq.{get_or-set_same, get_or-set_other, length-take-le}
 use Rattle.field.specs.Curve.{IsCurve, IsShort}
 use Rattle.field.specs.Power.{power}
 use Rattle.field.proofs.Fields.{field_of}
 use Rattle.field.proofs.FieldLaws.{zero_lt}
 use Rattle.field.proofs.Powers.{power_zero, power_next, power_lt}
 use Rattle.field.proofs.Curves.{sizes, short_sizes, short_curve}
-use Rattle.poly.specs.Inner.Ranges.{Below, writes, part, Blocks}
+use Rattle.poly.specs.Inner.Ranges.{Below, writes, Blocks}
 use Rattle.poly.specs.Inner.Linear.{entry}
-use Rattle.poly.specs.Inner.Rows.{scaled, stored}
+use Rattle.poly.specs.Inner.Rows.{scaled}
 use Rattle.poly.proofs.Blocks.{blocks_more, blocks_at}
 use Rattle.poly.proofs.Lists.{get_or_map}
 use Rattle.poly.proofs.Multiples.{length_scaled, scaled_in, below_scaled}
-use Rattle.poly.proofs.Parts.{length_part}
 use Rattle.poly.proofs.Writes.{length_writes, writes_in, below_writes}
 use Rattle.poly.proofs.Entries.{below_zeros}
 use Rattle.linear.specs.Inner.Systems.{Equation, Brought}
@@ -81,13 +81,11 @@ module _ (q x y : ℕ) (short : IsShort q) where
 
   -- row n comes into the grid
   pub row_stored : (grid row new : List ℕ) (n at : ℕ) → Blocks q (term_at q x y) grid n → RowAt q x y n row → at ≡ q * n → at + q ≤ length grid
-      → new ≡ stored q row (part grid at (at + q)) → Blocks q (term_at q x y) (put_mid at (at + q - at) grid new) (n + 1)
-  unfolding stored
+      → new ≡ take q row → Blocks q (term_at q x y) (put_mid at (at + q - at) grid new) (n + 1)
   row_stored grid row new n at h r is_at fits e =
-      let old = part grid at (at + q) in
-      let long : length old ≡ q = length_part grid at (at + q) (omega arith) fits ∙ omega arith in
-      blocks_more q (term_at q x y) grid new n at (at + q) h is_at refl fits (ap length e ∙ length_writes old (entry row) q ∙ long)
-      (λ j l. ap (λ (t : List ℕ). entry t j) e ∙ writes_in old (entry row) q j l (omega arith) ∙ r.at j l)
+      let narrow : q ≤ length row = omega (arith, (short_sizes q short).high, r.long) in
+      blocks_more q (term_at q x y) grid new n at (at + q) h is_at refl fits (ap length e ∙ length-take-le q row narrow)
+      (λ j l. ap (λ (t : List ℕ). entry t j) e ∙ get_or-take q row j 0 l ∙ r.at j l)
 
   -- the rows that the terms of the order m need
   pub rows_room : (m : ℕ) → m < q * 16 → q * (m / q + 1) ≤ 64

@@ -18,24 +18,15 @@ use linear::system;
 use linear::system::Effect;
 use poly::rows;
 
-// The rows of a system after a symbol was brought in, and whether that contradicts the others.
-#[derive(Clone, Copy)]
-pub struct Progress {
-    pub clash: bool,
-    pub rank: usize,
-}
-
 // x^0, x^1, .., one for each element of out.
 fn powers(q: u8, x: u8, out: &mut [u8])
     requires { x < (field_of q).size }
     ensures { out.new ≡ writes out.old (length out.old) (power (field_of q) x) }
 {
     let mut next = 1u8;
-    let mut i = 0;
-    while i < out.len() {
-        out[i] = next;
+    for entry in out.iter_mut() {
+        *entry = next;
         next = field::symbol::times(q, x, next);
-        i += 1;
     }
 }
 
@@ -48,14 +39,10 @@ fn monomials(q: u8, x: u8, y: u8, n: usize, grid: &mut [u8])
     let width = q as usize;
     let mut row = [0u8; 4];
     powers(q, y, &mut row);
-    let mut i = 0;
-    let mut at = 0;
-    while i < n {
-        let end = at + width;
-        rows::copy(width, &row, &mut grid[at..end]);
+    for i in 0..n {
+        let at = i * width;
+        grid[at..at + width].copy_from_slice(&row[..width]);
         rows::scale(q, x, width, &mut row);
-        at = end;
-        i += 1;
     }
 }
 
@@ -101,7 +88,7 @@ fn bring_place(
     system::bring_in(q, 64, k / 16 + 1, k, work, &mut row)
 }
 
-// Brings in what stands at place p: 255 brings nothing.
+// Brings in what stands at place p: 255 brings nothing. The rows of the system after it, or none where it contradicts the others.
 pub fn step(
     q: u8,
     columns: &[u8],
@@ -111,21 +98,18 @@ pub fn step(
     s: u8,
     rank: usize,
     work: &mut [u8],
-) -> Progress
+) -> Option<usize>
     requires columns { Columns q columns.now × (p < q * length columns.now) × (m < q * 16) × (entries.now ≡ entries_of q m) × (rank < 64) × IsShort q }
     requires s_bound { (s ≡ 255 → ⊥) → s < (field_of q).size }
     requires well_formed { WellFormed (field_of q) 64 (size q m) work.old }
-    ensures { Advanced q columns.now m p s rank work.old work.new result.clash result.rank }
+    ensures { Advanced q columns.now m p s rank work.old work.new result }
 {
     if s == 255 {
-        return Progress { clash: false, rank };
+        return Some(rank);
     }
     match bring_place(q, columns, m, entries, p, s, work) {
-        Effect::Pivot => Progress {
-            clash: false,
-            rank: rank + 1,
-        },
-        Effect::Redundant => Progress { clash: false, rank },
-        Effect::Contradiction => Progress { clash: true, rank },
+        Effect::Pivot => Some(rank + 1),
+        Effect::Redundant => Some(rank),
+        Effect::Contradiction => None,
     }
 }

@@ -9,8 +9,7 @@ use lib.Dec.{eqb}
 use borrow.Author.Tests.{eqb-true}
 use Rattle.field.specs.Curve.{is_curve, IsCurve, is_short, IsShort, bits_of, curve_of, named_of}
 use Rattle.field.specs.declared.curve.Curve.{Curve}
-use Rattle.field.specs.declared.curve.Named.{Named}
-use Rattle.field.specs.declared.curve.Named.TheVariants.{Is, Unknown}
+use Rattle.std.specs.Prelude.{Option, Some, None}
 
 -- what holds of 2, of 4 and of 8
 pub each_curve : (P : ℕ → Type 0) → P 2 → P 4 → P 8 → (q : ℕ) → IsCurve q → P q
@@ -110,21 +109,21 @@ size_le q = go (eqb q 2) (eqb q 8)
 
 -- ---- the constructor by q
 
-named_cases : (q : ℕ) (n : Named) (t : Bool) → is_curve q ≡ t → cond t (Is (curve_of q)) Unknown ≡ n
-    → (IsCurve q × (n ≡ Is (curve_of q))) ⊎ ((is_curve q ≡ false) × (n ≡ Unknown))
+named_cases : (q : ℕ) (n : Option Curve) (t : Bool) → is_curve q ≡ t → cond t (Some (curve_of q)) None ≡ n
+    → (IsCurve q × (n ≡ Some (curve_of q))) ⊎ ((is_curve q ≡ false) × (n ≡ None))
 named_cases q n true e f = inl (curve_of_true q e, sym f)
 named_cases q n false e f = inr (e, sym f)
 
-named_or_not : (q : ℕ) (n : Named) → named_of q ≡ n → (IsCurve q × (n ≡ Is (curve_of q))) ⊎ ((is_curve q ≡ false) × (n ≡ Unknown))
+named_or_not : (q : ℕ) (n : Option Curve) → named_of q ≡ n → (IsCurve q × (n ≡ Some (curve_of q))) ⊎ ((is_curve q ≡ false) × (n ≡ None))
 named_or_not q n f = named_cases q n (is_curve q) refl f
 
-pub unnamed : (q : ℕ) → named_of q ≡ Unknown → is_curve q ≡ false
+pub unnamed : (q : ℕ) → named_of q ≡ None → is_curve q ≡ false
 unnamed q e =
-    ⊎_elim (λ h. let d : ◌≡◌ {A = Named} Unknown (Is (curve_of q)) = h.1 in let o : ◌≡◌ {A = ℕ} 0 1 = cc in absurd (omega arith)) (λ h. h.0)
-    (named_or_not q Unknown e)
+    ⊎_elim (λ h. let d : ◌≡◌ {A = Option Curve} None (Some (curve_of q)) = h.1 in let o : ◌≡◌ {A = ℕ} 0 1 = cc in absurd (omega arith)) (λ h. h.0)
+    (named_or_not q None e)
 
-pub named : (q : ℕ) (v : Curve) → named_of q ≡ Is v → IsCurve q × (v ≡ curve_of q)
+pub named : (q : ℕ) (v : Curve) → named_of q ≡ Some v → IsCurve q × (v ≡ curve_of q)
 named q v e =
-    ⊎_elim (λ h. let d : Is v ≡ Is (curve_of q) = h.1 in (h.0, cc))
-    (λ h. let d : Is v ≡ Unknown = h.1 in let o : ◌≡◌ {A = ℕ} 0 1 = cc in absurd (omega arith))
-    (named_or_not q (Is v) e)
+    ⊎_elim (λ h. let d : Some v ≡ Some (curve_of q) = h.1 in (h.0, cc))
+    (λ h. let d : Some v ≡ None = h.1 in let o : ◌≡◌ {A = ℕ} 0 1 = cc in absurd (omega arith))
+    (named_or_not q (Some v) e)

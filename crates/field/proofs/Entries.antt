@@ -10,23 +10,23 @@ use lib.Pow.{pow_pos}
 use lib.ListN.{length, get_or}
 use borrow.Author.Tests.{lt-leb, ltb-false, not-false}
 use Rattle.field.specs.Curve.{is_curve, bits_of}
-use Rattle.field.specs.Outcomes.{number, refuse}
+use Rattle.field.specs.Outcomes.{Outcome, Done, refuse}
 use Rattle.field.specs.Values.{bad_value, first_bad, value_check}
-use Rattle.field.specs.Entries.{field_checks, answer}
-use Rattle.field.specs.declared.entry.Answer.{Answer}
-use Rattle.field.specs.declared.outcome.Outcome.{Outcome}
-use Rattle.field.specs.declared.outcome.Outcome.TheVariants.{Done, BadCurve, BadValue}
+use Rattle.field.specs.Entries.{Answer, told, field_checks, answer}
+use Rattle.std.specs.Prelude.{Err}
+use Rattle.field.specs.declared.outcome.Refusal.{Refusal}
+use Rattle.field.specs.declared.outcome.Refusal.TheVariants.{BadCurve, BadValue}
 use Rattle.field.proofs.Curves.{curve_of_true, sizes}
 use Rattle.field.proofs.Values.{symbol_of_good, all_good}
-use Rattle.field.proofs.Outcomes.{passed, not_done, Follows, none_follow, refuse_follows}
+use Rattle.field.proofs.Outcomes.{passed, counted, Follows, none_follow, refuse_follows}
 
 -- ---- operands
 
 symbol_lt : (q : ℕ) (xs : List ℕ) → field_checks q xs Done ≡ Done → (k : ℕ) → k < length xs → get_or xs k 0 < 2 ^ bits_of q
 symbol_lt q xs e k h =
     let bad = bad_value false (q * q) in
-    let a = passed (not (is_curve q)) (value_check false (q * q) xs Done) BadCurve (λ p. omega (arith, ap number p)) e in
-    let b = passed (ltb (first_bad bad xs) (length xs)) Done (BadValue (first_bad bad xs)) (λ p. omega (arith, ap number p)) a.1 in
+    let a = passed (not (is_curve q)) (value_check false (q * q) xs Done) BadCurve e in
+    let b = passed (ltb (first_bad bad xs) (length xs)) Done (BadValue (first_bad bad xs)) a.1 in
     subst (λ (n : ℕ). get_or xs k 0 < n) (sym (sizes q (curve_of_true q (not-false (is_curve q) a.0))).size)
     (symbol_of_good (q * q) (get_or xs k 0) (all_good bad xs (ltb-false (first_bad bad xs) (length xs) b.0) k h))
 
@@ -48,21 +48,15 @@ and_zero q a =
     go true false h = rw (h refl)
     go false b h = refl
 
--- ---- the answers, as the code makes them
+-- ---- the answer where the checks refuse
 
-abbrev pub made : ℕ → Outcome → Answer
-made s o = record { symbol = s; outcome = o }
-
-pub done : {o p : Outcome} {s t : ℕ} → o ≡ p → o ≡ Done → s ≡ t → made s o ≡ answer p t
-done {t = t} op od st = ap₂ made st od ∙ ap (λ (o : Outcome). answer o t) (sym od ∙ op)
-
-pub refused : {o p : Outcome} (t : ℕ) → o ≡ p → (o ≡ Done → ⊥) → made 0 o ≡ answer p t
-refused {o} t op k = sym (ap (λ (b : Bool). made (cond b t 0) o) (not_done o k)) ∙ ap (λ (x : Outcome). answer x t) op
+pub refused : (o : Outcome) (r : Refusal) (s : ℕ) → o ≡ Err r → answer o s ≡ told (Err r)
+refused o r s e = rw (e, counted r)
 
 -- ---- the checks of one operand, and what follows them
 
 pub operand_follows : (q a : ℕ) → Follows (field_checks q (a ∷ []))
 operand_follows q a =
     let w : ℕ = first_bad (bad_value false (q * q)) (a ∷ []) in
-    refuse_follows (not (is_curve q)) BadCurve (value_check false (q * q) (a ∷ [])) refl
-    (refuse_follows (ltb w 1) (BadValue w) (λ rest. rest) refl none_follow)
+    refuse_follows (not (is_curve q)) BadCurve (value_check false (q * q) (a ∷ []))
+    (refuse_follows (ltb w 1) (BadValue w) (λ rest. rest) none_follow)

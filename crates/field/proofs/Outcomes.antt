@@ -1,85 +1,114 @@
 -- Checks in a row, and refusals as an arm of the code is told of them.
 -- Assumes nothing.
-use mathlib.Core.Bool.{Bool, true, false, cond}
+use mathlib.Core.Bool.{Bool, true, false, cond, false≢true}
 use mathlib.Core.Logic.{◌↔◌, ◌⊎◌, inl, inr, ⊎_elim}
 use mathlib.Core.Path.{◌≡◌, refl, sym, ap, ◌∙◌}
 use Prim.Native.Nat.{ℕ}
 use native.Mathlib.Omega.{arith}
 use lib.Dec.{eqb}
-use Rattle.field.specs.Outcomes.{number, second, Says, refuse}
-use Rattle.field.specs.declared.outcome.Outcome.{Outcome}
-use Rattle.field.specs.declared.outcome.Outcome.TheVariants.{Done, BadCurve, BadOrder, BadLength, BadValue, BadRoom, BadPlace}
-use Rattle.field.specs.declared.outcome.Outcome.TheVariants.{BadSymbol, NoMessage, Several, NoneNear, NoRadius, InverseOfZero, BadWork}
-use Rattle.field.specs.declared.outcome.Outcome.TheVariants.{BadPlaces, NoInformationSet, BadSeries, BadColumns, LowOrder}
+use Rattle.std.specs.Prelude.{Result, Ok, Err}
+use Rattle.std.specs.Result.{IsErrAnd, is_ok}
+use Rattle.std.proofs.lemmas.Result.{err_from_is_err_and}
+use Rattle.field.specs.Outcomes.{Outcome, Done, refusal_number, refusal_second, number, second, Says, refuse}
+use Rattle.field.specs.declared.outcome.Refusal.{Refusal}
+use Rattle.field.specs.declared.outcome.Refusal.TheVariants.{BadCurve, BadOrder, BadLength, BadValue, BadRoom, BadPlace}
+use Rattle.field.specs.declared.outcome.Refusal.TheVariants.{BadSymbol, NoMessage, Several, NoneNear, NoRadius, InverseOfZero, BadWork}
+use Rattle.field.specs.declared.outcome.Refusal.TheVariants.{BadPlaces, NoInformationSet, BadSeries, BadColumns, LowOrder}
 
--- a check that comes out Done did not apply
-pub passed : (t : Bool) (o r : Outcome) → (r ≡ Done → ⊥) → refuse t r o ≡ Done → (t ≡ false) × (o ≡ Done)
-passed true o r n e = absurd (n e)
-passed false o r n e = (refl, e)
-
--- the two numbers tell the outcome
-outcome_of : ℕ → ℕ → Outcome
-outcome_of n s =
-    cond (eqb n 0) Done (cond (eqb n 1) BadCurve (cond (eqb n 2) BadOrder (cond (eqb n 3) BadLength (cond (eqb n 4) (BadValue s)
-    (cond (eqb n 5) BadRoom (cond (eqb n 6) BadPlace (cond (eqb n 7) BadSymbol
-    (cond (eqb n 9) NoMessage (cond (eqb n 10) (Several s)
-    (cond (eqb n 11) NoneNear (cond (eqb n 12) NoRadius (cond (eqb n 13) InverseOfZero
-    (cond (eqb n 14) BadWork (cond (eqb n 15) BadPlaces (cond (eqb n 16) NoInformationSet (cond (eqb n 17) BadSeries (cond (eqb n 18) BadColumns LowOrder)))))))))))))))))
-
-outcome_of_lem : (o : Outcome) → outcome_of (number o) (second o) ≡ o
-unfolding outcome_of
-outcome_of_lem Done = refl
-outcome_of_lem BadCurve = refl
-outcome_of_lem BadOrder = refl
-outcome_of_lem BadLength = refl
-outcome_of_lem (BadValue i) = refl
-outcome_of_lem BadRoom = refl
-outcome_of_lem BadPlace = refl
-outcome_of_lem BadSymbol = refl
-outcome_of_lem NoMessage = refl
-outcome_of_lem (Several n) = refl
-outcome_of_lem NoneNear = refl
-outcome_of_lem NoRadius = refl
-outcome_of_lem InverseOfZero = refl
-outcome_of_lem BadWork = refl
-outcome_of_lem BadPlaces = refl
-outcome_of_lem NoInformationSet = refl
-outcome_of_lem BadSeries = refl
-outcome_of_lem BadColumns = refl
-outcome_of_lem LowOrder = refl
-
-pub says : (o p : Outcome) → Says o (number p) (second p) ↔ (o ≡ p)
-says o p = (λ h. sym (outcome_of_lem o) ∙ rw (h.0, h.1) (outcome_of_lem p), λ e. rw e (refl, refl))
+-- no refusal has the number 0
+pub counted : (r : Refusal) → eqb (refusal_number r) 0 ≡ false
+counted BadCurve = refl
+counted BadOrder = refl
+counted BadLength = refl
+counted (BadValue i) = refl
+counted BadRoom = refl
+counted BadPlace = refl
+counted BadSymbol = refl
+counted NoMessage = refl
+counted (Several n) = refl
+counted NoneNear = refl
+counted NoRadius = refl
+counted InverseOfZero = refl
+counted BadWork = refl
+counted BadPlaces = refl
+counted NoInformationSet = refl
+counted BadSeries = refl
+counted BadColumns = refl
+counted LowOrder = refl
 
 pub done_or_refused : (o : Outcome) → (o ≡ Done) ⊎ (eqb (number o) 0 ≡ false)
-unfolding outcome_of
-done_or_refused o = go (eqb (number o) 0) refl
-  where
-    go : (b : Bool) → eqb (number o) 0 ≡ b → (o ≡ Done) ⊎ (eqb (number o) 0 ≡ false)
-    go true e = inl (sym (outcome_of_lem o) ∙ rw e)
-    go false e = inr e
+done_or_refused (Ok done) = inl refl
+done_or_refused (Err r) = inr (counted r)
 
 -- an outcome other than Done, as an arm of the code is told of it
 pub not_done : (o : Outcome) → (o ≡ Done → ⊥) → eqb (number o) 0 ≡ false
-not_done Done k = absurd (k refl)
-not_done BadCurve k = refl
-not_done BadOrder k = refl
-not_done BadLength k = refl
-not_done (BadValue i) k = refl
-not_done BadRoom k = refl
-not_done BadPlace k = refl
-not_done BadSymbol k = refl
-not_done NoMessage k = refl
-not_done (Several n) k = refl
-not_done NoneNear k = refl
-not_done NoRadius k = refl
-not_done InverseOfZero k = refl
-not_done BadWork k = refl
-not_done BadPlaces k = refl
-not_done NoInformationSet k = refl
-not_done BadSeries k = refl
-not_done BadColumns k = refl
-not_done LowOrder k = refl
+not_done o k = ⊎_elim (λ d. absurd (k d)) (λ n. n) (done_or_refused o)
+
+pub done_or_not : (o : Outcome) → o ≡ Done → eqb (number o) 0 ≡ false → ⊥
+done_or_not o e n = let f : ◌≡◌ {A = Bool} true false = sym (ap (λ (x : Outcome). eqb (number x) 0) e) ∙ n in let z : ◌≡◌ {A = ℕ} 0 1 = cc in
+    omega arith
+
+-- what the exit of a `?` hands on is the refusal that the call answered, which isn't Done
+pub handed_on : {r : Refusal} (result o : Outcome) → IsErrAnd result (λ y. y ≡ r) → o ≡ Err r → result ≡ o
+handed_on result o h was = let p = err_from_is_err_and result h in p.1 ∙ ap (λ (x : Refusal). Err x) p.2 ∙ sym was
+
+pub err_not_done : {r : Refusal} {o : Outcome} → o ≡ Err r → o ≡ Done → ⊥
+err_not_done {r} {o} was d = done_or_not o d (ap (λ (x : Outcome). eqb (number x) 0) was ∙ counted r)
+
+-- what `is_ok` tells
+pub ok_done : (o : Outcome) → is_ok o ≡ true → o ≡ Done
+ok_done (Ok done) e = refl
+ok_done (Err r) e = absurd (false≢true e)
+
+pub not_ok : (o : Outcome) → is_ok o ≡ false → eqb (number o) 0 ≡ false
+not_ok (Ok done) e = absurd (false≢true (sym e))
+not_ok (Err r) e = counted r
+
+-- a check that comes out Done did not apply
+pub passed : (t : Bool) (o : Outcome) (r : Refusal) → refuse t r o ≡ Done → (t ≡ false) × (o ≡ Done)
+passed true o r e = absurd (done_or_not (Err r) e (counted r))
+passed false o r e = (refl, e)
+
+-- the two numbers tell the outcome
+refusal_of : ℕ → ℕ → Refusal
+refusal_of n s =
+    cond (eqb n 1) BadCurve (cond (eqb n 2) BadOrder (cond (eqb n 3) BadLength (cond (eqb n 4) (BadValue s)
+    (cond (eqb n 5) BadRoom (cond (eqb n 6) BadPlace (cond (eqb n 7) BadSymbol
+    (cond (eqb n 9) NoMessage (cond (eqb n 10) (Several s)
+    (cond (eqb n 11) NoneNear (cond (eqb n 12) NoRadius (cond (eqb n 13) InverseOfZero
+    (cond (eqb n 14) BadWork (cond (eqb n 15) BadPlaces (cond (eqb n 16) NoInformationSet (cond (eqb n 17) BadSeries (cond (eqb n 18) BadColumns LowOrder))))))))))))))))
+
+refusal_of_lem : (r : Refusal) → refusal_of (refusal_number r) (refusal_second r) ≡ r
+unfolding refusal_of
+refusal_of_lem BadCurve = refl
+refusal_of_lem BadOrder = refl
+refusal_of_lem BadLength = refl
+refusal_of_lem (BadValue i) = refl
+refusal_of_lem BadRoom = refl
+refusal_of_lem BadPlace = refl
+refusal_of_lem BadSymbol = refl
+refusal_of_lem NoMessage = refl
+refusal_of_lem (Several n) = refl
+refusal_of_lem NoneNear = refl
+refusal_of_lem NoRadius = refl
+refusal_of_lem InverseOfZero = refl
+refusal_of_lem BadWork = refl
+refusal_of_lem BadPlaces = refl
+refusal_of_lem NoInformationSet = refl
+refusal_of_lem BadSeries = refl
+refusal_of_lem BadColumns = refl
+refusal_of_lem LowOrder = refl
+
+outcome_of : ℕ → ℕ → Outcome
+outcome_of n s = cond (eqb n 0) Done (Err (refusal_of n s))
+
+outcome_of_lem : (o : Outcome) → outcome_of (number o) (second o) ≡ o
+unfolding outcome_of
+outcome_of_lem (Ok done) = refl
+outcome_of_lem (Err r) = rw (counted r) (ap (λ (x : Refusal). Err x) (refusal_of_lem r))
+
+pub says : (o p : Outcome) → Says o (number p) (second p) ↔ (o ≡ p)
+says o p = (λ h. sym (outcome_of_lem o) ∙ rw (h.0, h.1) (outcome_of_lem p), λ e. rw e (refl, refl))
 
 -- ---- rows of checks: what follows a row that comes out Done is what the call answers; a refusal of the row is the call's
 
@@ -89,10 +118,9 @@ Follows row = (o rest : Outcome) → row Done ≡ o → ((o ≡ Done) × (row re
 pub none_follow : Follows (λ rest. rest)
 none_follow o rest e = inl (sym e, refl)
 
-pub refuse_follows : (t : Bool) (r : Outcome) (row : Outcome → Outcome) → eqb (number r) 0 ≡ false → Follows row
-    → Follows (λ rest. refuse t r (row rest))
-refuse_follows true r row n f o rest e = inr (ap (λ (x : Outcome). eqb (number x) 0) (sym e) ∙ n, e)
-refuse_follows false r row n f o rest e = f o rest e
+pub refuse_follows : (t : Bool) (r : Refusal) (row : Outcome → Outcome) → Follows row → Follows (λ rest. refuse t r (row rest))
+refuse_follows true r row f o rest e = inr (ap (λ (x : Outcome). eqb (number x) 0) (sym e) ∙ counted r, e)
+refuse_follows false r row f o rest e = f o rest e
 
 -- one row after another
 pub follows_after : (first second : Outcome → Outcome) → Follows first → Follows second → Follows (λ rest. first (second rest))
@@ -111,10 +139,6 @@ follows_after first second f g o rest e = ⊎_elim past stopped (g (second Done)
               (f (first Done) (second Done) refl),
           ap first h.1 ∙ e,
         )
-
-pub done_or_not : (o : Outcome) → o ≡ Done → eqb (number o) 0 ≡ false → ⊥
-done_or_not o e n = let f : ◌≡◌ {A = Bool} true false = sym (ap (λ (x : Outcome). eqb (number x) 0) e) ∙ n in let z : ◌≡◌ {A = ℕ} 0 1 = cc in
-    omega arith
 
 module _ (row : Outcome → Outcome) (f : Follows row) (o : Outcome) (e : o ≡ row Done) (rest : Outcome) where
   pub row_not_done : eqb (number o) 0 ≡ false → o ≡ row rest

@@ -1,8 +1,6 @@
 -- "A curve is named by q, which is 2 or 4." "Add q = 8" (T-09). "Its field has Q = q × q elements."
-use Rattle.std.specs.Prelude.{Bool, cond, ◌||◌, ◌⊎◌, ◌≡◌, ℕ, ◌+◌, ◌-◌, ◌*◌, ◌/◌, eqb}
+use Rattle.std.specs.Prelude.{Bool, Option, Some, None, cond, ◌||◌, ◌⊎◌, ◌≡◌, ℕ, ◌+◌, ◌-◌, ◌*◌, ◌/◌, eqb}
 use Rattle.field.specs.declared.curve.Curve.{Curve}
-use Rattle.field.specs.declared.curve.Named.{Named}
-use Rattle.field.specs.declared.curve.Named.TheVariants.{Is, Unknown}
 
 abbrev pub is_curve : ℕ → Bool
 is_curve q = eqb q 2 || (eqb q 4 || eqb q 8)
@@ -25,5 +23,5 @@ bits_of q = cond (eqb q 2) 2 (cond (eqb q 8) 6 4)
 abbrev pub curve_of : ℕ → Curve
 curve_of q = record { q = q; symbols = q * q; points = q * q * q; genus = q * (q - 1) / 2; weight_x = q; weight_y = q + 1 }
 
-abbrev pub named_of : ℕ → Named
-named_of q = cond (is_curve q) (Is (curve_of q)) Unknown
+abbrev pub named_of : ℕ → Option Curve
+named_of q = cond (is_curve q) (Some (curve_of q)) None

@@ -1,9 +1,8 @@
 -- Check 4 of "Why a call is turned down": "An input or stored value is Q or more, 255 being allowed in broken words and sessions only;
 -- the second number is the lowest index, from 0, of such a value (for a field operation 0 or 1, the operand)."
 use Rattle.std.specs.Prelude.{Bool, not, cond, ◌&&◌, List, [], ◌∷◌, ℕ, suc, eqb, leb, ltb, length}
-use Rattle.field.specs.Outcomes.{refuse}
-use Rattle.field.specs.declared.outcome.Outcome.{Outcome}
-use Rattle.field.specs.declared.outcome.Outcome.TheVariants.{BadValue}
+use Rattle.field.specs.Outcomes.{Outcome, refuse}
+use Rattle.field.specs.declared.outcome.Refusal.TheVariants.{BadValue}
 
 -- gaps says whether 255 is allowed
 abbrev pub bad_value : Bool → ℕ → ℕ → Bool

@@ -1,4 +1,5 @@
 // Each curve's fixed numbers, by type and by q.
+// kept: no trait over the three types, since each constant that a clause of a generic function names would stand twice in each `impl`.
 ghost use Rattle.std.specs.Prelude.{◌≡◌};
 ghost use Rattle.field.specs.Curve.{is_curve, is_short, IsCurve, curve_of, named_of};
 
@@ -61,12 +62,6 @@ pub struct Curve {
     pub weight_y: usize,
 }
 
-#[derive(Clone, Copy)]
-pub enum Named {
-    Is(Curve),
-    Unknown,
-}
-
 impl Curve {
     // The curve of a number that is known to be a curve's.
     pub fn at(q: u8) -> Curve
@@ -104,12 +99,12 @@ impl Curve {
     }
 
     // The curve of any number.
-    pub fn of(q: u8) -> Named
+    pub fn of(q: u8) -> Option<Curve>
         ensures { result ≡ named_of q }
     {
         match q {
-            2 | 4 | 8 => Named::Is(Curve::at(q)),
-            _ => Named::Unknown,
+            2 | 4 | 8 => Some(Curve::at(q)),
+            _ => None,
         }
     }
 }
@@ -125,6 +120,8 @@ pub fn is_curve(q: u8) -> bool
 }
 
 // Whether q is the number of a curve of short blocks.
+// kept: what takes such a number asks `IsShort q`, or `IsCurve q` of any curve, and not a type of such numbers: its clauses name q again
+// and again, and `curve.q` each time is longer than the one fact.
 pub fn is_short(q: u8) -> bool
     ensures { result ≡ is_short q }
 {

@@ -6,5 +6,5 @@ pub mod entry;
 pub mod outcome;
 pub mod symbol;
 
-pub use curve::{Curve, Named};
-pub use outcome::Outcome;
+pub use curve::Curve;
+pub use outcome::{Outcome, Refusal};

@@ -1,12 +1,10 @@
 // The outcomes of all entries of the library.
 ghost use Rattle.std.specs.Prelude.{◌≡◌};
-ghost use Rattle.field.specs.Outcomes.{number, second, packed};
+ghost use Rattle.field.specs.Outcomes.{refusal_number, refusal_second, number, second, packed};
 
-// Done, and a case for each refusal of "Why a call is turned down", in its order. No case has the number 8: "Refusal 8 no longer
-// occurs" (T-01).
-#[derive(Clone, Copy)]
-pub enum Outcome {
-    Done,
+// A case for each refusal of "Why a call is turned down", in its order. No case has the number 8: "Refusal 8 no longer occurs" (T-01).
+#[derive(Clone, Copy, PartialEq, Eq)]
+pub enum Refusal {
     BadCurve,
     BadOrder,
     BadLength,
@@ -36,30 +34,55 @@ pub enum Outcome {
     LowOrder,
 }
 
-// The refusal number, 0 for Done.
+// What a call answers besides what it writes: nothing, or why it was turned down.
+pub type Outcome = Result<(), Refusal>;
+
+// kept: numbers, and by functions: they are what C gets and what the papers name (the C interface).
+impl Refusal {
+    pub fn number(self) -> u8
+        ensures { result ≡ refusal_number self }
+    {
+        match self {
+            Refusal::BadCurve => 1,
+            Refusal::BadOrder => 2,
+            Refusal::BadLength => 3,
+            Refusal::BadValue(_) => 4,
+            Refusal::BadRoom => 5,
+            Refusal::BadPlace => 6,
+            Refusal::BadSymbol => 7,
+            Refusal::NoMessage => 9,
+            Refusal::Several(_) => 10,
+            Refusal::NoneNear => 11,
+            Refusal::NoRadius => 12,
+            Refusal::InverseOfZero => 13,
+            Refusal::BadWork => 14,
+            Refusal::BadPlaces => 15,
+            Refusal::NoInformationSet => 16,
+            Refusal::BadSeries => 17,
+            Refusal::BadColumns => 18,
+            Refusal::LowOrder => 19,
+        }
+    }
+
+    // The second number.
+    pub fn second(self) -> u16
+        ensures { result ≡ refusal_second self }
+    {
+        match self {
+            Refusal::BadValue(index) => index,
+            Refusal::Several(r) => r,
+            _ => 0,
+        }
+    }
+}
+
+// The refusal number, 0 for a call that isn't refused.
 pub fn number(o: Outcome) -> u8
     ensures { result ≡ number o }
 {
     match o {
-        Outcome::Done => 0,
-        Outcome::BadCurve => 1,
-        Outcome::BadOrder => 2,
-        Outcome::BadLength => 3,
-        Outcome::BadValue(_) => 4,
-        Outcome::BadRoom => 5,
-        Outcome::BadPlace => 6,
-        Outcome::BadSymbol => 7,
-        Outcome::NoMessage => 9,
-        Outcome::Several(_) => 10,
-        Outcome::NoneNear => 11,
-        Outcome::NoRadius => 12,
-        Outcome::InverseOfZero => 13,
-        Outcome::BadWork => 14,
-        Outcome::BadPlaces => 15,
-        Outcome::NoInformationSet => 16,
-        Outcome::BadSeries => 17,
-        Outcome::BadColumns => 18,
-        Outcome::LowOrder => 19,
+        Ok(()) => 0,
+        Err(refusal) => refusal.number(),
     }
 }
 
@@ -68,25 +91,8 @@ pub fn second(o: Outcome) -> u16
     ensures { result ≡ second o }
 {
     match o {
-        Outcome::Done => 0,
-        Outcome::BadCurve => 0,
-        Outcome::BadOrder => 0,
-        Outcome::BadLength => 0,
-        Outcome::BadValue(index) => index,
-        Outcome::BadRoom => 0,
-        Outcome::BadPlace => 0,
-        Outcome::BadSymbol => 0,
-        Outcome::NoMessage => 0,
-        Outcome::Several(r) => r,
-        Outcome::NoneNear => 0,
-        Outcome::NoRadius => 0,
-        Outcome::InverseOfZero => 0,
-        Outcome::BadWork => 0,
-        Outcome::BadPlaces => 0,
-        Outcome::NoInformationSet => 0,
-        Outcome::BadSeries => 0,
-        Outcome::BadColumns => 0,
-        Outcome::LowOrder => 0,
+        Ok(()) => 0,
+        Err(refusal) => refusal.second(),
     }
 }
 

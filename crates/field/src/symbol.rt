@@ -1,5 +1,5 @@
 // Sum, product and inverse of symbols, at a curve's number q. What calls them shows that it has symbols.
-ghost use Rattle.std.specs.Prelude.{◌≡◌, ◌*◌, ◌/◌, ◌%◌, ◌<◌, ◌^◌};
+ghost use Rattle.std.specs.Prelude.{ℕ, ◌≡◌, ◌*◌, ◌/◌, ◌%◌, ◌<◌, ◌^◌};
 ghost use Rattle.field.specs.Plus.{plus};
 ghost use Rattle.field.specs.Curve.{bits_of};
 ghost use Rattle.field.specs.Inner.Halves.{half_of};
@@ -9,7 +9,7 @@ ghost use Rattle.field.specs.Product.{times_z, times, inverse};
 use crate::curve::{Large, Long, Small};
 
 // The inverses of the three fields; that of 0 is 0.
-const INVERSES: [u8; 16] = [0, 1, 9, 14, 13, 11, 7, 6, 15, 2, 12, 5, 10, 4, 3, 8];
+const INVERSES_16: [u8; 16] = [0, 1, 9, 14, 13, 11, 7, 6, 15, 2, 12, 5, 10, 4, 3, 8];
 
 const INVERSES_4: [u8; 4] = [0, 1, 3, 2];
 
@@ -19,27 +19,6 @@ const INVERSES_64: [u8; 64] = *b"\
     \x3f\x02\x1b\x15\x38\x09\x32\x13\x0d\x2f\x30\x05\x07\x1e\x0c\x29\
     \x2a\x04\x26\x12\x0a\x1d\x11\x3c\x24\x08\x3b\x3a\x37\x10\x03\x20";
 
-fn inverse_64(a: u8) -> u8
-    requires { a < 64 }
-    ensures { result ≡ inverse 6 a }
-{
-    INVERSES_64[a as usize]
-}
-
-fn inverse_16(a: u8) -> u8
-    requires { a < 16 }
-    ensures { result ≡ inverse 4 a }
-{
-    INVERSES[a as usize]
-}
-
-fn inverse_4(a: u8) -> u8
-    requires { a < 4 }
-    ensures { result ≡ inverse 2 a }
-{
-    INVERSES_4[a as usize]
-}
-
 pub fn plus(a: u8, b: u8) -> u8
     ensures { result ≡ plus a b }
 {
@@ -47,6 +26,7 @@ pub fn plus(a: u8, b: u8) -> u8
 }
 
 // How many symbols the field has, of short blocks and of any.
+// kept: loops of short blocks ask for their size without the test for 8.
 fn short_size(q: u8) -> u8
     requires { q ≡ 8 → ⊥ }
     ensures { result ≡ 2 ^ bits_of q }
@@ -165,47 +145,64 @@ fn times_z_4(a: u8) -> u8
     shift(8, Long::Q, a3)
 }
 
-// The product of short blocks: all bits of a symbol are among four.
-pub fn times_short(q: u8, a: u8, b: u8) -> u8
-    requires { (q ≡ 8 → ⊥) × (a < 2 ^ bits_of q) × (b < 2 ^ bits_of q) }
-    ensures { result ≡ times (bits_of q) a b }
-{
-    times_four_bits(q, short_size(q), a, b)
+// How the symbols of one kind of block are multiplied. A loop that must be fast is generic over the kind, so that its product is chosen
+// before it begins.
+pub trait Product {
+    // whether q is the number of such blocks
+    ghost takes: { ℕ → Type 0 };
+
+    fn times(q: u8, a: u8, b: u8) -> u8
+        requires blocks { takes q }
+        requires symbols { (a < 2 ^ bits_of q) × (b < 2 ^ bits_of q) }
+        ensures { result ≡ times (bits_of q) a b };
 }
 
-// The product of long blocks: of six bits, two follow the lowest four.
-pub fn times_long(a: u8, b: u8) -> u8
-    requires { (a < 64) × (b < 64) }
-    ensures { result ≡ times 6 a b }
-{
-    let a4 = times_z_4(a);
-    let a5 = shift(8, Long::Q, a4);
-    let b4 = b / 2 / 2 / 2 / 2;
-    let low = times_four_bits(8, Long::Q, a, b);
-    let high = times_bit(a4, b4) ^ times_bit(a5, b4 / 2);
-    low ^ high
+// All bits of a symbol are among four.
+pub struct ShortBlocks;
+
+impl Product for ShortBlocks {
+    ghost takes = { λ q. q ≡ 8 → ⊥ };
+
+    fn times(q: u8, a: u8, b: u8) -> u8 {
+        times_four_bits(q, short_size(q), a, b)
+    }
 }
 
-// The product. Loops that must be fast choose between the two before they begin.
+// Of a symbol's six bits, two follow the lowest four.
+pub struct LongBlocks;
+
+impl Product for LongBlocks {
+    ghost takes = { λ q. q ≡ 8 };
+
+    fn times(_q: u8, a: u8, b: u8) -> u8 {
+        let a4 = times_z_4(a);
+        let a5 = shift(8, Long::Q, a4);
+        let b4 = b / 2 / 2 / 2 / 2;
+        let low = times_four_bits(8, Long::Q, a, b);
+        let high = times_bit(a4, b4) ^ times_bit(a5, b4 / 2);
+        low ^ high
+    }
+}
+
+// The product of any blocks.
 pub fn times(q: u8, a: u8, b: u8) -> u8
     requires { (a < 2 ^ bits_of q) × (b < 2 ^ bits_of q) }
     ensures { result ≡ times (bits_of q) a b }
 {
     if q == 8 {
-        return times_long(a, b);
+        return LongBlocks::times(q, a, b);
     }
-    times_short(q, a, b)
+    ShortBlocks::times(q, a, b)
 }
 
 pub fn inverse(q: u8, a: u8) -> u8
     requires { (a < 2 ^ bits_of q) × (a ≡ 0 → ⊥) }
     ensures { result ≡ inverse (bits_of q) a }
 {
-    if q == 8 {
-        inverse_64(a)
-    } else if q == 2 {
-        inverse_4(a)
-    } else {
-        inverse_16(a)
+    let place = a as usize;
+    match q {
+        8 => INVERSES_64[place],
+        2 => INVERSES_4[place],
+        _ => INVERSES_16[place],
     }
 }

@@ -5,11 +5,10 @@ use mathlib.Core.List.{List}
 use mathlib.Core.Logic.{◌⊎◌, ⊎_elim}
 use mathlib.Core.Path.{◌≡◌, refl, sym, ap, ◌∙◌}
 use Prim.Native.Nat.{ℕ}
-use Rattle.field.specs.Outcomes.{packed}
-use Rattle.field.specs.declared.outcome.Outcome.{Outcome}
+use Rattle.field.specs.Outcomes.{Outcome, packed}
 use Rattle.mend.specs.Mended.{Mending, answered as mended_as}
 use Rattle.poly.specs.Lists.{one_if}
-use Rattle.dual.specs.declared.Verdict.{Verdict}
+use Rattle.dual.specs.Checked.{Verdict}
 use Rattle.hermitian.specs.Packed.{PackedMending, PackedVerdict}
 
 pub to_packed_mending : (answer : Mending) (o : Outcome) (count : ℕ) (message codeword marks : List ℕ) (returned : ℕ)

@@ -3,7 +3,7 @@ use Rattle.std.specs.Prelude.{List, ◌≡◌, ℕ}
 use Rattle.field.specs.Outcomes.{packed}
 use Rattle.poly.specs.Lists.{one_if}
 use Rattle.mend.specs.Mended.{Mending}
-use Rattle.dual.specs.declared.Verdict.{Verdict}
+use Rattle.dual.specs.Checked.{Verdict}
 
 -- what the mender answers, whose count C reads off the marks
 abbrev pub PackedMending : Mending → ℕ → List ℕ → List ℕ → List ℕ → Type 0

@@ -76,9 +76,8 @@ pub extern "C" fn hermitian_mend(
     ensures { PackedMending (mended q series m word.now message.old codeword.old marks.old) result
         message.new codeword.new marks.new }
 {
-    let reply = mend::mend(q, series, m, word, message, codeword, marks);
-    let o = reply.outcome;
-    outcome::packed(o)
+    let changed = mend::mend(q, series, m, word, message, codeword, marks);
+    outcome::packed(changed.map(|_| ()))
 }
 
 #[unsafe(no_mangle)]
@@ -138,8 +137,7 @@ pub extern "C" fn hermitian_recover_on(
 pub extern "C" fn hermitian_check(q: u8, series: u8, m: u16, word: &[u8], verdict: &mut u8) -> u32
     ensures { PackedVerdict (checked q series m word.now) result verdict.new }
 {
-    let reply = dual::check(q, series, m, word);
-    let told = reply.outcome;
-    *verdict = if reply.codeword { 1 } else { 0 };
-    outcome::packed(told)
+    let codeword = dual::check(q, series, m, word);
+    *verdict = u8::from(codeword.unwrap_or(false));
+    outcome::packed(codeword.map(|_| ()))
 }

@@ -3,7 +3,7 @@
 use mathlib.Core.List.{List}
 use mathlib.Core.Path.{◌≡◌}
 use Prim.Native.Nat.{ℕ}
-use Rattle.field.specs.declared.outcome.Outcome.{Outcome}
+use Rattle.field.specs.Outcomes.{Outcome}
 use Rattle.code.specs.Answers.{Answer, answered}
 use Rattle.code.specs.RecoveredLong.{KeptUnlessWorked}
 

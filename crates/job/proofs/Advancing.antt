@@ -1,6 +1,5 @@
 -- The loops that bring symbols in: their beginning and their steps.
 -- Assumes nothing.
-use mathlib.Core.Bool.{Bool, true, false}
 use mathlib.Core.List.{List}
 use mathlib.Core.Logic.{inl, inr}
 use mathlib.Core.Path.{◌≡◌, refl}
@@ -8,6 +7,7 @@ use Prim.Native.Nat.{ℕ, ◌+◌, ◌≤◌, ◌<◌}
 use native.Mathlib.Decide.{ℕ_discrete}
 use native.Mathlib.Omega.{arith}
 use lib.ListN.{length, get_or, take}
+use Rattle.std.specs.Prelude.{Option, Some, None}
 use Rattle.equations.specs.Inner.Collecting.{Advanced}
 use Rattle.equations.proofs.Collecting.{taken_gap, collected_more}
 use Rattle.job.specs.Symbols.{arrived_in}
@@ -66,7 +66,7 @@ module _ (q : ℕ) (columns : List ℕ) (m : ℕ) (word work₀ : List ℕ) (p�
               (taken_gap q columns m p (get_or word p 0) r work e h.ready.formed);
         }
 
-    pub collecting_step : (work' : List ℕ) (r' : ℕ) → Advanced q columns m p (get_or word p 0) r work work' false r'
+    pub collecting_step : (work' : List ℕ) (r' : ℕ) → Advanced q columns m p (get_or word p 0) r work work' (Some r')
         → Collecting q columns m word work₀ p₀ r₀ work' (p + 1) r'
     collecting_step work' r' a =
         record {
@@ -74,28 +74,28 @@ module _ (q : ℕ) (columns : List ℕ) (m : ℕ) (word work₀ : List ℕ) (p�
           collected = λ c. collected_more q columns m word work work' p r r' (h.collected c) a;
         }
 
-    pub collects_clash : (budget b : ℕ) (work' : List ℕ) (r' r'' : ℕ) → Advanced q columns m p (get_or word p 0) r work work' true r'
-        → Collects q columns m word budget work₀ p₀ r₀ work' (p + 1) r'' b true
-    collects_clash budget b work' r' r'' a c v f =
+    pub collects_clash : (budget b : ℕ) (work' : List ℕ) → Advanced q columns m p (get_or word p 0) r work work' None
+        → Collects q columns m word budget work₀ p₀ r₀ work' (p + 1) None b
+    collects_clash budget b work' a c v f =
         a v (((h.collected c).same v).0 (record { at = λ i l. f.at i (omega arith) })) (f.at p (omega arith))
 
 -- ---- by a whole word
 
-module _ (word whole : List ℕ) (p₀ : ℕ) (clash₀ : Bool) where
-  pub compared_none : Compared word whole p₀ clash₀ p₀ clash₀
-  compared_none = go clash₀
+module _ (word whole : List ℕ) (p₀ : ℕ) (r₀ : Option ℕ) where
+  pub compared_none : Compared word whole p₀ r₀ p₀ r₀
+  compared_none = go r₀
     where
-      go : (b : Bool) → Compared word whole p₀ b p₀ b
-      go true = inl refl
-      go false = (refl, λ i l k. absurd (omega arith))
+      go : (r : Option ℕ) → Compared word whole p₀ r p₀ r
+      go None = inl refl
+      go (Some r) = (refl, λ i l k. absurd (omega arith))
 
   module _ (p : ℕ) where
     -- a place that is missing, or has the symbol of the whole word
-    pub compared_same : (clash : Bool) → Compared word whole p₀ clash₀ p clash
-        → ((get_or word p 0 ≡ 255 → ⊥) → get_or whole p 0 ≡ get_or word p 0) → Compared word whole p₀ clash₀ (p + 1) clash
-    compared_same true (inl e) s = inl e
-    compared_same true (inr h) s = inr (h.0, h.1, omega (arith, h.2), h.3, h.4)
-    compared_same false h s = (
+    pub compared_same : (r : Option ℕ) → Compared word whole p₀ r₀ p r
+        → ((get_or word p 0 ≡ 255 → ⊥) → get_or whole p 0 ≡ get_or word p 0) → Compared word whole p₀ r₀ (p + 1) r
+    compared_same None (inl e) s = inl e
+    compared_same None (inr h) s = inr (h.0, h.1, omega (arith, h.2), h.3, h.4)
+    compared_same (Some r) h s = (
       h.0,
       λ i l k d. elim (ℕ_discrete i p) [
         | yes e ↦ rw e (s (λ g. d (rw e g)))
@@ -104,5 +104,5 @@ module _ (word whole : List ℕ) (p₀ : ℕ) (clash₀ : Bool) where
     )
 
     pub compared_differs : p₀ ≤ p → (get_or word p 0 ≡ 255 → ⊥) → (get_or whole p 0 ≡ get_or word p 0 → ⊥)
-        → Compared word whole p₀ clash₀ (p + 1) true
+        → Compared word whole p₀ r₀ (p + 1) None
     compared_differs l d n = inr (p, l, omega arith, d, n)

@@ -9,8 +9,7 @@ use native.Mathlib.Decide.{ℕ_discrete, dec_lt, dec_le}
 use native.Mathlib.Omega.{arith}
 use borrow.Author.Tests.{eq-eqb, ne_eqb, lt-ltb, le-ltb, le-leb, lt-leb}
 use lib.ListN.{length}
-use Rattle.field.specs.Outcomes.{Says}
-use Rattle.field.specs.declared.outcome.Outcome.TheVariants.{Done}
+use Rattle.field.specs.Outcomes.{Done, Says}
 use Rattle.field.proofs.Outcomes.{says}
 use Rattle.code.specs.Terms.{size}
 use Rattle.code.specs.Answers.{Answer}

@@ -3,18 +3,16 @@
 use mathlib.Core.Bool.{Bool, true, false}
 use mathlib.Core.List.{List, ◌++◌}
 use mathlib.Core.Logic.{inr}
-use mathlib.Core.Path.{◌≡◌, sym, ap, ◌∙◌, subst}
+use mathlib.Core.Path.{◌≡◌, refl, sym, ap, ◌∙◌, subst}
 use Prim.Native.Nat.{ℕ, ◌*◌, ◌≤◌, ◌<◌}
 use native.Mathlib.Omega.{arith}
-use lib.Dec.{eqb}
+use Rattle.std.specs.Prelude.{Option, Some, None, is_none, IfSome}
 use lib.ListN.{length, take, drop}
 use lib.Seq.{length-take-le, length_front, take_at}
 use Rattle.field.specs.Curve.{IsShort}
-use Rattle.field.specs.declared.outcome.Outcome.TheVariants.{Done}
+use Rattle.field.specs.Outcomes.{Done}
 use Rattle.field.proofs.Curves.{sizes, short_sizes, short_curve}
 use Rattle.poly.specs.Messages.{Vector}
-use Rattle.poly.specs.Inner.Rows.{stored}
-use Rattle.poly.proofs.Entries.{copied}
 use Rattle.points.specs.Series.{columns_of}
 use Rattle.code.specs.Terms.{size}
 use Rattle.code.specs.Inner.Recovering.{BrokenOver}
@@ -26,7 +24,7 @@ use Rattle.job.specs.Task.{stored_word, task_of}
 use Rattle.job.specs.Opened.{open_checks}
 use Rattle.job.specs.Carried.{Result, onward, replied, carried, WrittenOnlyWithMessage}
 use Rattle.job.specs.Sound.{Standing, Sound}
-use Rattle.job.specs.Inner.Bringing.{Usable, Tested, Brings, reply_by}
+use Rattle.job.specs.Inner.Bringing.{Usable, Tested, Brings, is_complete, reply_by}
 use Rattle.job.proofs.Openings.{open_block, open_order, open_broken, open_short}
 use Rattle.job.proofs.Calls.{carried_takes}
 use Rattle.job.proofs.Tellings.{gives}
@@ -131,8 +129,8 @@ module _ (j : Job) (k n : ℕ) (g : Given j k n) where
   -- ---- what it leaves
 
   module _ (budget : ℕ) (work candidate whole : List ℕ) (r : Progress) (left : Left j k n budget work candidate whole r) where
-    abbrev after : Job
-    after =
+    abbrev after_by : Bool → Bool → Job
+    after_by complete clash =
         record {
           work = work;
           places = j.places;
@@ -142,9 +140,12 @@ module _ (j : Job) (k n : ℕ) (g : Given j k n) where
           series = j.series;
           m = j.m;
           next = r.next;
-          complete = eqb r.rank k;
-          clash = r.clash;
+          complete = complete;
+          clash = clash;
         }
+
+    abbrev after : Job
+    after = after_by (is_complete k r.rank) (is_none r.rank)
 
     -- by k and n themselves
     brought : Brings j.q j.series j.m (stored_word j) budget j.work (take (size j.q j.m) j.candidate) (take (length (stored_word j))
@@ -169,14 +170,18 @@ module _ (j : Job) (k n : ℕ) (g : Given j k n) where
     pub next_fits : r.next ≤ 64
     next_fits = omega (arith, brought.counts.within, word_long, few)
 
-    pub rows_fit : r.clash ≡ false → r.rank ≤ k
-    rows_fit e = omega (arith, g.is_k, brought.rows e)
+    pub rows_fit : IfSome r.rank (λ rows. rows ≤ k)
+    rows_fit = go r.rank brought.rows
+      where
+        go : (rank : Option ℕ) → ((rows : ℕ) → rank ≡ Some rows → rows ≤ size j.q j.m) → IfSome rank (λ rows. rows ≤ k)
+        go None h = tt
+        go (Some rows) h = omega (arith, g.is_k, h rows refl)
 
     module _ (h : Sound j) where
-      stands : Standing j.q j.series j.m (stored_word j) work candidate whole r.next (eqb r.rank (size j.q j.m)) r.clash
+      stands : Standing j.q j.series j.m (stored_word j) work candidate whole r.next (is_complete (size j.q j.m) r.rank) (is_none r.rank)
       stands = brought.stands h.stands
 
-      pub sound_after : Sound after
+      sound_after : Sound after
       sound_after =
           record {
             passes = h.passes;
@@ -184,13 +189,18 @@ module _ (j : Job) (k n : ℕ) (g : Given j k n) where
             stands =
                 subst (λ (x : List ℕ). Standing j.q j.series j.m (stored_word j) work x (take (length (stored_word j)) (whole ++ drop n j.whole))
                 r.next
-                (eqb r.rank k) r.clash) (sym (take_at candidate (drop k j.candidate) (size j.q j.m) (left.candidate_kept
+                (is_complete k r.rank) (is_none r.rank)) (sym (take_at candidate (drop k j.candidate) (size j.q j.m) (left.candidate_kept
                 ∙ candidate_taken ∙ g.is_k)))
-                (subst (λ (x : List ℕ). Standing j.q j.series j.m (stored_word j) work candidate x r.next (eqb r.rank k) r.clash)
+                (subst (λ (x : List ℕ). Standing j.q j.series j.m (stored_word j) work candidate x r.next (is_complete k r.rank) (is_none r.rank))
                 (sym (take_at whole (drop n j.whole) (length (stored_word j)) (left.whole_kept ∙ whole_taken ∙ sym word_long)))
-                (subst (λ (x : ℕ). Standing j.q j.series j.m (stored_word j) work candidate whole r.next (eqb r.rank x) r.clash) (sym
+                (subst (λ (x : ℕ). Standing j.q j.series j.m (stored_word j) work candidate whole r.next (is_complete x r.rank) (is_none r.rank)) (sym
                 g.is_k) stands));
           }
+
+      pub sound_by : (complete clash : Bool) → complete ≡ is_complete k r.rank → clash ≡ is_none r.rank → Sound (after_by complete clash)
+      sound_by complete clash e f =
+          subst (λ (x : Bool). Sound (after_by x clash)) (sym e)
+          (subst (λ (x : Bool). Sound (after_by (is_complete k r.rank) x)) (sym f) sound_after)
 
       module _ (slice : List ℕ) (room : length slice ≡ k) where
         -- the task goes on by the number brought in
@@ -217,7 +227,7 @@ module _ (j : Job) (k n : ℕ) (g : Given j k n) where
             goes_on
             ∙ replied_message j.q j.series j.m (stored_word j) h.passes work candidate whole r brought.counts.within brought.rows
             brought.fewer
-            stands r.brought slice all given.clear (omega (arith, given.full, g.is_k))
+            stands r.brought slice given.rows all given.clear (omega (arith, given.full, g.is_k))
             ∙ ap (λ (x : Reply). answer x candidate) (sym d) ∙ ap (answer reply) (sym o)
 
         pub gives_other : (reply : Reply) → reply ≡ reply_by k n r → (reply ≡ Finished Done → ⊥) → carried (task_of j) budget slice ≡ answer reply slice
@@ -234,12 +244,16 @@ module _ (j : Job) (k n : ℕ) (g : Given j k n) where
         → WrittenOnlyWithMessage j.q j.m reply before slice
     writes_message reply before slice e d s =
         let given = gives k n r (sym e ∙ d) in
+        let full : given.rows ≡ size j.q j.m = omega (arith, given.full, g.is_k, brought.rows given.rows given.clear) in
         inr (
           d,
           subst (λ (x : List ℕ). Vector (j.q * j.q) (size j.q j.m) x) (sym s)
               (subst (λ (Q : ℕ). Vector Q (size j.q j.m) candidate) (sizes j.q (short_curve j.q block)).size
-              (brought.message given.clear (omega (arith, given.full, g.is_k, brought.rows given.clear)))),
+              (brought.message (given.clear ∙ ap (λ (n : ℕ). Some n) full))),
         )
 
-    pub copies : (slice : List ℕ) → length slice ≡ k → stored k (candidate ++ drop k j.candidate) slice ≡ candidate
-    copies slice room = copied k candidate (drop k j.candidate) slice (left.candidate_kept ∙ candidate_taken) room
+    pub copies : take k (candidate ++ drop k j.candidate) ≡ candidate
+    copies = take_at candidate (drop k j.candidate) k (left.candidate_kept ∙ candidate_taken)
+
+    pub copies_long : length (take k (candidate ++ drop k j.candidate)) ≡ k
+    copies_long = ap length copies ∙ left.candidate_kept ∙ candidate_taken

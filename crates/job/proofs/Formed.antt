@@ -1,16 +1,20 @@
 -- The test of a work slice says that it is well formed.
 -- Assumes nothing.
 use mathlib.Core.Bool.{Bool, true, false, not, ◌||◌, ◌&&◌}
-use mathlib.Core.List.{List}
+use mathlib.Core.List.{List, [], ◌∷◌, ◌++◌}
 use mathlib.Core.Logic.{◌⊎◌, inl, inr, ⊎_elim, ◌↔◌}
-use mathlib.Core.Path.{◌≡◌, refl, subst}
-use Prim.Native.Nat.{ℕ, ◌+◌, ◌*◌, ◌≤◌, ◌<◌}
-use native.Mathlib.Numerals.{add-one}
+use mathlib.Core.Path.{◌≡◌, refl, sym, ap, ◌∙◌, subst}
+use Prim.Native.Nat.{ℕ, zero, suc, ◌+◌, ◌-◌, ◌*◌, ◌≤◌, ◌<◌}
 use native.Mathlib.Decide.{ℕ_discrete, dec_lt}
 use native.Mathlib.Omega.{arith}
-use borrow.Author.Tests.{eq-eqb, ne_eqb, ltb-true, ltb-false, leb-true, lt-ltb, le-ltb, le-leb, lt-leb, not-true}
+use borrow.Author.Tests.{eq-eqb, ltb-true, ltb-false, leb-true, lt-ltb, le-ltb, le-leb, lt-leb, not-true}
 use lib.Dec.{T, eqb, leb, ltb, eqb→eq}
-use lib.ListN.{length, get_or-eq_default}
+use lib.ListN.{length, get_or, take, drop, get_or-eq_default, length-append}
+use Rattle.std.specs.Bool.{MatchBool}
+use Rattle.std.specs.List.{filter, list_all, range_with_len, AllWithin, HoldsAt}
+use Rattle.std.proofs.Common.{add-zero, zero-add, length-take, length-drop, get_or-take, get_or-drop}
+use Rattle.std.proofs.lemmas.List.Elements.{filter-append}
+use Rattle.std.proofs.lemmas.List.Folds.{list_all-append}
 use Rattle.field.specs.Curve.{IsCurve}
 use Rattle.field.specs.Field.{Field}
 use Rattle.field.specs.Tests.{every}
@@ -20,10 +24,10 @@ use Rattle.field.proofs.Search.{of_every, to_every, both}
 use Rattle.field.proofs.Curves.{sizes}
 use Rattle.field.proofs.Fields.{field_of}
 use Rattle.field.proofs.FieldLaws.{zero_lt}
-use Rattle.poly.specs.Lists.{count, below}
+use Rattle.poly.specs.Lists.{one_if, count, below}
 use Rattle.poly.specs.Inner.Ranges.{Below}
 use Rattle.poly.specs.Inner.Linear.{entry}
-use Rattle.linear.specs.Inner.Systems.{System, flat, rank, WellFormed}
+use Rattle.linear.specs.Inner.Systems.{flat, rank, WellFormed}
 use Rattle.poly.proofs.Bools.{T_true, true_or_false, parts, of_or, or_left, or_right, implies, implied}
 use Rattle.job.specs.Inner.Formed.{row_formed, rows_formed, symbols_below, well_formed}
 
@@ -67,35 +71,84 @@ module _ (stride k : ℕ) (work : List ℕ) where
 
 -- ---- how the tests of the code decide
 
-every_not : (n : ℕ) (p : ℕ → Bool) (i : ℕ) → i < n → p i ≡ false → every n p ≡ false
-every_not n p i l e = ⊎_elim (λ t. absurd (subst T e (of_every n p (rw t tt) i l))) (λ f. f) (true_or_false (every n p))
+-- one number more, as chains over the numbers from a on list them
+range_more : (a n : ℕ) → range_with_len a (suc n) ≡ range_with_len a n ++ (a + n) ∷ []
+range_more a zero = ap (λ (x : ℕ). x ∷ []) (sym (add-zero a))
+range_more a (suc n) =
+    let e : a + 1 + n ≡ a + suc n = omega arith in
+    ap (λ (xs : List ℕ). a ∷ xs) (range_more (a + 1) n ∙ ap (λ (x : ℕ). range_with_len (a + 1) n ++ x ∷ []) e)
 
-every_all : (n : ℕ) (p : ℕ → Bool) → ((i : ℕ) → i < n → T (p i)) → every n p ≡ true
-every_all n p h = T_true (every n p) (to_every n p h)
+-- the numbers below n
+below_more : (n : ℕ) → range_with_len 0 (suc n) ≡ range_with_len 0 n ++ n ∷ []
+below_more n = range_more 0 n ∙ ap (λ (x : ℕ). range_with_len 0 n ++ x ∷ []) (zero-add n)
 
-module _ (stride k : ℕ) (work : List ℕ) where
-  pub rows_not : (p : ℕ) → p < k → row_formed stride k work p ≡ false → rows_formed stride k work ≡ false
-  rows_not p l e = every_not k (row_formed stride k work) p l e
+swapped : (a b : Bool) → (a && (b && true)) ≡ (b && a)
+swapped true true = refl
+swapped true false = refl
+swapped false true = refl
+swapped false false = refl
 
-  pub rows_all : ((p : ℕ) → p < k → row_formed stride k work p ≡ true) → rows_formed stride k work ≡ true
-  rows_all h = every_all k (row_formed stride k work) (λ p l. rw (h p l) tt)
+pub every_below : (p : ℕ → Bool) (n : ℕ) → list_all p (range_with_len 0 n) ≡ every n p
+unfolding every
+every_below p zero = refl
+every_below p (suc n) =
+    ap (list_all p) (below_more n) ∙ list_all-append p (range_with_len 0 n) (n ∷ []) ∙ ap (λ (b : Bool). b && (p n && true)) (every_below p n)
+    ∙ swapped (every n p) (p n)
 
-  module _ (p : ℕ) where
-    pub row_large : 1 < entry work (p * stride + p) → row_formed stride k work p ≡ false
-    unfolding row_formed
-    row_large l = rw (lt-leb (entry work (p * stride + p)) 1 l)
+counted : (p : ℕ → Bool) (n : ℕ) (b : Bool) → p n ≡ b → length (filter p (n ∷ [])) ≡ one_if b
+counted p n true e = rw e
+counted p n false e = rw e
 
-    pub row_absent : entry work (p * stride + p) ≡ 0 → row_formed stride k work p ≡ true
-    unfolding row_formed
-    row_absent e = rw e
+pub count_below : (p : ℕ → Bool) (n : ℕ) → length (filter p (range_with_len 0 n)) ≡ count p (below n)
+unfolding count below
+count_below p zero = refl
+count_below p (suc n) =
+    ap (λ (xs : List ℕ). length (filter p xs)) (below_more n) ∙ ap length (filter-append p (range_with_len 0 n) (n ∷ []))
+    ∙ length-append (filter p (range_with_len 0 n)) (filter p (n ∷ []))
+    ∙ (let h = count_below p n in let z = counted p n (p n) refl in omega arith)
 
-    pub row_not : (j : ℕ) → p < j → j < k → entry work (p * stride + p) ≡ 1 → (entry work (p * stride + j) ≡ 0 → ⊥)
-        → row_formed stride k work p ≡ false
-    row_not j l b e n =
-        ⊎_elim (λ t. absurd (n (row_zeros stride k work p (rw t tt) (rw e tt) j l b))) (λ f. f) (true_or_false (row_formed stride k work p))
+module _ (stride k : ℕ) (work : List ℕ) (p : ℕ) where
+  pub row_large : (entry work (p * stride + p) ≡ 0 → ⊥) → (entry work (p * stride + p) ≡ 1 → ⊥) → row_formed stride k work p ≡ false
+  unfolding row_formed
+  row_large z o = rw (lt-leb (entry work (p * stride + p)) 1 (omega arith))
 
-    pub row_all : entry work (p * stride + p) ≡ 1 → ((j : ℕ) → p < j → j < k → entry work (p * stride + j) ≡ 0) → row_formed stride k work p ≡ true
-    row_all e h = T_true (row_formed stride k work p) (row_formed_lem stride k work p (inr e) (λ j l b t. h j l b))
+  pub row_absent : entry work (p * stride + p) ≡ 0 → row_formed stride k work p ≡ true
+  unfolding row_formed
+  row_absent e = rw e
+
+  row_not : (j : ℕ) → p < j → j < k → entry work (p * stride + p) ≡ 1 → (entry work (p * stride + j) ≡ 0 → ⊥)
+      → row_formed stride k work p ≡ false
+  row_not j l b e n =
+      ⊎_elim (λ t. absurd (n (row_zeros stride k work p (rw t tt) (rw e tt) j l b))) (λ f. f) (true_or_false (row_formed stride k work p))
+
+  row_all : entry work (p * stride + p) ≡ 1 → ((j : ℕ) → p < j → j < k → entry work (p * stride + j) ≡ 0) → row_formed stride k work p ≡ true
+  row_all e h = T_true (row_formed stride k work p) (row_formed_lem stride k work p (inr e) (λ j l b t. h j l b))
+
+  -- the entries after its own
+  abbrev after : List ℕ
+  after = take (p * stride + k - (p * stride + p + 1)) (drop (p * stride + p + 1) work)
+
+  module _ (within : p < k) (fits : p * stride + k ≤ length work) (own : entry work (p * stride + p) ≡ 1) where
+    after_long : length after ≡ k - (p + 1)
+    after_long = simp (length-take, length-drop) (omega arith)
+
+    after_at : (i j : ℕ) → i + (p + 1) ≡ j → j < k → get_or after i 0 ≡ entry work (p * stride + j)
+    after_at i j e l =
+        let b : p * stride + p + 1 + i ≡ p * stride + j = omega arith in
+        get_or-take (p * stride + k - (p * stride + p + 1)) (drop (p * stride + p + 1) work) i 0 (omega arith)
+        ∙ get_or-drop (p * stride + p + 1) work i 0 ∙ ap (entry work) b
+
+    -- they decide where the row has 1 at its own
+    pub row_decided : (b : Bool)
+        → MatchBool b (AllWithin (λ x. x ≡ 0) after 0 (length after)) ((i : ℕ) × (i < length after) × HoldsAt (λ x. x ≡ 0 → ⊥) after i)
+        → b ≡ row_formed stride k work p
+    row_decided true h =
+        sym (row_all own (λ j l b.
+        let i : j - (p + 1) + (p + 1) ≡ j = omega arith in
+        sym (after_at (j - (p + 1)) j i b) ∙ h (j - (p + 1)) 0 (omega arith) (omega (arith, after_long))))
+    row_decided false (i, l, n) =
+        let b : i + (p + 1) < k = omega (arith, after_long) in
+        sym (row_not (i + (p + 1)) (omega arith) b own (λ e. n 0 (after_at i (i + (p + 1)) refl b ∙ e)))
 
 -- w is what the search found
 module _ (Q k : ℕ) (work : List ℕ) (room : k < 64) (long : length work ≡ 4096) (w : ℕ) (f : w ≡ first_bad (bad_value false Q) work) where
@@ -165,23 +218,6 @@ formed_curve q curve stride k work =
 
 -- ---- counting the rows
 
-pub rank_none : (S : System) → rank 0 S ≡ 0
-unfolding rank count below
-rank_none S = refl
-
-module _ (S : System) (p : ℕ) where
-  one_more : S.present p ≡ true → rank (p + 1) S ≡ rank p S + 1
-  unfolding rank count below
-  one_more e = rw (add-one p, e) (omega arith)
-
-  no_more : S.present p ≡ false → rank (p + 1) S ≡ rank p S
-  unfolding rank count below
-  no_more e = rw (add-one p, e) (omega arith)
-
--- as a loop counts
-module _ (k : ℕ) (work : List ℕ) (p n : ℕ) (h : n ≡ rank p (flat 64 k work)) where
-  pub rank_there : entry work (p * 64 + p) ≡ 1 → n + 1 ≡ rank (p + 1) (flat 64 k work)
-  rank_there e = omega (arith, one_more (flat 64 k work) p (eq-eqb (entry work (p * 64 + p)) 1 e))
-
-  pub rank_absent : (entry work (p * 64 + p) ≡ 1 → ⊥) → n ≡ rank (p + 1) (flat 64 k work)
-  rank_absent d = omega (arith, no_more (flat 64 k work) p (ne_eqb (entry work (p * 64 + p)) 1 d))
+pub rank_counted : (k : ℕ) (work : List ℕ) → length (filter (λ p. eqb (entry work (p * 64 + p)) 1) (range_with_len 0 k)) ≡ rank k (flat 64 k work)
+unfolding rank
+rank_counted k work = count_below (λ p. eqb (entry work (p * 64 + p)) 1) k

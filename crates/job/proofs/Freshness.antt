@@ -3,22 +3,16 @@
 use mathlib.Core.Bool.{Bool, true, false}
 use mathlib.Core.List.{List, [], ◌++◌}
 use mathlib.Core.Path.{◌≡◌, refl, sym, ap, ◌∙◌, subst}
-use Prim.Native.Nat.{ℕ, ◌+◌, ◌-◌, ◌*◌, ◌≤◌}
-use native.Mathlib.Decide.{dec_lt}
+use Prim.Native.Nat.{ℕ, ◌-◌, ◌*◌, ◌≤◌}
 use native.Mathlib.Omega.{arith}
 use lib.Dec.{eqb}
-use lib.ListN.{length, get_or, take, replicate, length-replicate, get_or-replicate, length-append, get_or-append}
-use lib.Seq.{ext_get_or, get_or-append-add, take-append_seam}
+use lib.ListN.{length, take, drop, replicate, length-replicate}
+use Rattle.std.proofs.lemmas.List.{drop-replicate}
+use lib.Seq.{take-append_seam}
 use Rattle.field.specs.Curve.{is_short}
-use Rattle.field.specs.Outcomes.{number}
-use Rattle.field.specs.declared.outcome.Outcome.{Outcome}
-use Rattle.field.specs.declared.outcome.Outcome.TheVariants.{Done}
+use Rattle.field.specs.Outcomes.{Outcome, Done, number}
 use Rattle.field.proofs.Curves.{short_sizes}
 use Rattle.field.proofs.Fields.{field_of}
-use Rattle.poly.specs.Inner.Linear.{entry}
-use Rattle.poly.specs.Inner.Ranges.{writes}
-use Rattle.poly.specs.Inner.Rows.{stored}
-use Rattle.poly.proofs.Writes.{length_writes, writes_in, writes_out}
 use Rattle.poly.proofs.Entries.{get_or_zeros}
 use Rattle.linear.specs.Inner.Systems.{flat, rank}
 use Rattle.linear.proofs.WellFormed.{blank_formed, blank_rank}
@@ -38,24 +32,10 @@ use Rattle.job.proofs.Openings.{blank_accepted, opened_outcome, opened_done, ope
 -- ---- how one is made
 
 -- a word in the front of missing places
-gaps_after : (word : List ℕ) → length word ≤ 64 → stored (length word) word (replicate 64 255) ≡ word ++ replicate (64 - length word) 255
-unfolding stored
-gaps_after word short =
-    let gaps : List ℕ = replicate 64 255 in
-    let rest : List ℕ = replicate (64 - length word) 255 in
-    let left : length (writes gaps (length word) (entry word)) ≡ 64 = length_writes gaps (entry word) (length word) in
-    let right : length (word ++ rest) ≡ 64 = omega (arith, length-append word rest, length-replicate {A = ℕ} (64 - length word) 255) in
-    ext_get_or 0 (writes gaps (length word) (entry word)) (word ++ rest) (left ∙ sym right) (λ j l. elim (dec_lt j (length word)) [
-      | yes b ↦
-          writes_in gaps (entry word) (length word) j b (omega (arith, length-replicate {A = ℕ} 64 255)) ∙ sym (get_or-append word rest 0 j b)
-      | no d ↦
-          let e : j ≡ length word + (j - length word) = omega arith in
-          writes_out gaps (entry word) (length word) j (omega arith) ∙ get_or-replicate 64 j 255 0 (omega (arith, left))
-          ∙ sym (ap (λ (i : ℕ). get_or (word ++ rest) i 0) e ∙ get_or-append-add word rest (j - length word) 0
-          ∙ get_or-replicate (64 - length word) (j - length word) 255 0 (omega (arith, left)))
-    ])
+gaps_after : (word : List ℕ) → word ++ drop (length word) (replicate 64 255) ≡ word ++ replicate (64 - length word) 255
+gaps_after word = ap (λ (rest : List ℕ). word ++ rest) (drop-replicate (length word) 64 255)
 
-pub made_fresh : (q series m : ℕ) (word places candidate whole : List ℕ) → length word ≤ 64 → places ≡ stored (length word) word (replicate 64 255)
+pub made_fresh : (q series m : ℕ) (word places candidate whole : List ℕ) → places ≡ word ++ drop (length word) (replicate 64 255)
     → Fresh q series m word (record {
       work = replicate 4096 0;
       places = places;
@@ -68,12 +48,12 @@ pub made_fresh : (q series m : ℕ) (word places candidate whole : List ℕ) →
       complete = false;
       clash = false;
     })
-made_fresh q series m word places candidate whole short e =
+made_fresh q series m word places candidate whole e =
     record {
       curve = refl;
       listed = refl;
       order = refl;
-      places = e ∙ gaps_after word short;
+      places = e ∙ gaps_after word;
       area = length-replicate {A = ℕ} 4096 0;
       zeros = get_or_zeros 4096;
       next = refl;

@@ -1,3 +1,4 @@
+pub mod Places
 pub mod Symbols
 pub mod Openings
 pub mod Freshness

@@ -9,9 +9,9 @@ use borrow.Author.Tests.{eq-eqb}
 use lib.Dec.{eqb, leb, ltb}
 use lib.ListN.{length, replicate}
 use Rattle.field.specs.Curve.{IsCurve, is_short, IsShort}
-use Rattle.field.specs.Outcomes.{number, refuse}
-use Rattle.field.specs.declared.outcome.Outcome.{Outcome}
-use Rattle.field.specs.declared.outcome.Outcome.TheVariants.{Done, BadCurve, BadOrder, BadLength, BadValue, BadRoom, BadSeries}
+use Rattle.std.specs.Prelude.{Err}
+use Rattle.field.specs.Outcomes.{Outcome, Done, number, refuse}
+use Rattle.field.specs.declared.outcome.Refusal.TheVariants.{BadCurve, BadOrder, BadLength, BadValue, BadRoom, BadSeries}
 use Rattle.field.proofs.Curves.{short_curve, short_of_true, short_true}
 use Rattle.points.specs.Passing.{passing}
 use Rattle.points.specs.Series.{is_series, columns_of}
@@ -106,8 +106,8 @@ module _ (q series m : ℕ) (word : List ℕ) where
           (checks ∙ slices_accepted true (q * q) (q * q * q) word (size q m) (length slice) Done
           (record { long = open_word.long; good = open_word.good; fits = e }))
 
-      pub recovers_room : (length slice ≡ size q m → ⊥) → recovered q series m word slice ≡ answered BadRoom slice
+      pub recovers_room : (length slice ≡ size q m → ⊥) → recovered q series m word slice ≡ answered (Err BadRoom) slice
       recovers_room n =
-          recovered_refused q series m word slice BadRoom
+          recovered_refused q series m word slice (Err BadRoom)
           (checks ∙ slices_room true (q * q) (q * q * q) word (size q m) (length slice) Done open_word.long Done
           (value_good true (q * q) word _ refl (none_found (bad_value true (q * q)) word open_word.good)) refl n) refl

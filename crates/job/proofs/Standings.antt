@@ -8,8 +8,8 @@ use Prim.Native.Nat.{ℕ, ◌≤◌, ◌<◌}
 use native.Mathlib.Decide.{dec_lt}
 use native.Mathlib.Omega.{arith}
 use borrow.Author.Tests.{eq-eqb, ne_eqb}
-use lib.Dec.{eqb}
 use lib.ListN.{length, get_or}
+use Rattle.std.specs.Prelude.{Option, Some, None, is_none}
 use Rattle.field.proofs.Fields.{field_of}
 use Rattle.poly.specs.Messages.{Vector}
 use Rattle.poly.specs.Inner.Linear.{entry}
@@ -23,7 +23,7 @@ use Rattle.code.proofs.Rows.{word_dot}
 use Rattle.equations.specs.Inner.Collecting.{FitsBelow, Collected}
 use Rattle.job.specs.Sound.{NoneBelow, OnlyBelow, Standing}
 use Rattle.job.specs.declared.bringing.Progress.{Progress}
-use Rattle.job.specs.Inner.Bringing.{Counted, Stopped, Collects, Compared, Usable, Brings}
+use Rattle.job.specs.Inner.Bringing.{Counted, Stopped, Collects, Compared, Usable, is_complete, Brings}
 
 module _ (q series m : ℕ) (word : List ℕ) where
   -- what fits the symbols below p fits those below an earlier place
@@ -75,18 +75,19 @@ module _ (q series m : ℕ) (word : List ℕ) where
 
     module _ (work candidate whole : List ℕ) (p₀ p : ℕ) (l : p₀ ≤ p) (k : p ≤ length word) (complete : Bool) where
       -- after a clash nothing but the count goes on
-      clash_stands : (other : List ℕ) (clash : Bool) → Compared word other p₀ true p clash → NoneBelow q series m word p₀
-          → Standing q series m word work candidate whole p complete clash
-      clash_stands other true c h = none_further p₀ p l h
-      clash_stands other false c h = let z : ◌≡◌ {A = ℕ} 0 1 = cc in absurd (omega arith)
+      clash_stands : (other : List ℕ) (r : Option ℕ) → Compared word other p₀ None p r → NoneBelow q series m word p₀
+          → Standing q series m word work candidate whole p complete (is_none r)
+      clash_stands other None c h = none_further p₀ p l h
+      clash_stands other (Some r) c h = let e = c.0 in let z : ◌≡◌ {A = ℕ} 0 1 = cc in absurd (omega arith)
 
       -- the candidate stays, or there is a clash
-      only_stands : complete ≡ true → (clash : Bool) → Compared word whole p₀ false p clash → OnlyBelow q series m word p₀ candidate whole
-          → Standing q series m word work candidate whole p complete clash
-      only_stands e true (inl c) h = let z : ◌≡◌ {A = ℕ} 0 1 = cc in absurd (omega arith)
-      only_stands e true (inr c) h = none_differs candidate whole p₀ p l k h c.0 c.1 c.2 c.3 c.4
-      only_stands e false c h =
-          subst (λ (x : Bool). Standing q series m word work candidate whole p x false) (sym e) (only_further candidate whole p₀ p l k h c.1)
+      only_stands : (n : ℕ) → (r : Option ℕ) → (r ≡ Some n → complete ≡ true) → Compared word whole p₀ (Some n) p r → OnlyBelow q series m word p₀ candidate whole
+          → Standing q series m word work candidate whole p complete (is_none r)
+      only_stands n None e (inl c) h = let z : ◌≡◌ {A = ℕ} 0 1 = cc in absurd (omega arith)
+      only_stands n None e (inr c) h = none_differs candidate whole p₀ p l k h c.0 c.1 c.2 c.3 c.4
+      only_stands n (Some r) e c h =
+          subst (λ (x : Bool). Standing q series m word work candidate whole p x false) (sym (e (sym c.0)))
+          (only_further candidate whole p₀ p l k h c.1)
 
 -- ---- by the flags
 
@@ -126,9 +127,14 @@ module _ (q m : ℕ) (work candidate : List ℕ) where
 -- ---- what `bring` gives, in its three ways
 
 -- a clash stays
-clash_stays : (word other : List ℕ) (p₀ p : ℕ) (clash : Bool) → Compared word other p₀ true p clash → clash ≡ false → ⊥
-clash_stays word other p₀ p true c e = let z : ◌≡◌ {A = ℕ} 0 1 = cc in omega arith
-clash_stays word other p₀ p false c e = let z : ◌≡◌ {A = ℕ} 0 1 = cc in omega arith
+clash_stays : (word other : List ℕ) (p₀ p n : ℕ) (r : Option ℕ) → Compared word other p₀ None p r → r ≡ Some n → ⊥
+clash_stays word other p₀ p n None c e = let z : ◌≡◌ {A = ℕ} 0 1 = cc in omega arith
+clash_stays word other p₀ p n (Some r) c e = let d = c.0 in let z : ◌≡◌ {A = ℕ} 0 1 = cc in omega arith
+
+-- without one the rows stay
+rows_stay : (word other : List ℕ) (p₀ p n m : ℕ) (r : Option ℕ) → Compared word other p₀ (Some n) p r → r ≡ Some m → n ≡ m
+rows_stay word other p₀ p n m None c e = let z : ◌≡◌ {A = ℕ} 0 1 = cc in absurd (omega arith)
+rows_stay word other p₀ p n m (Some r) c e = let d = c.0 in cc
 
 module _ (q series m : ℕ) (word : List ℕ) (b : BrokenOver q (columns_of q series) m word) (budget : ℕ) (work₀ candidate₀ whole₀ : List ℕ) (p₀ : ℕ)
     (complete₀ clash₀ : Bool) (work candidate whole : List ℕ) (r : Progress) (counts : Counted word budget p₀ 0 r.next r.brought) where
@@ -137,52 +143,51 @@ module _ (q series m : ℕ) (word : List ℕ) (b : BrokenOver q (columns_of q se
 
   -- the symbols below p clash, and from there on they are counted
   pub brings_clash : (p : ℕ) (other : List ℕ) → p ≤ r.next → Stopped word budget r.next r.brought → (Before → NoneBelow q series m word p)
-      → Compared word other p true r.next r.clash
+      → Compared word other p None r.next r.rank
       → Brings q series m word budget work₀ candidate₀ whole₀ p₀ complete₀ clash₀ work candidate whole r
   brings_clash p other l stops none c =
       record {
         counts = counts;
         stops = stops;
-        rows = λ e. absurd (clash_stays word other p r.next r.clash c e);
-        message = λ e. absurd (clash_stays word other p r.next r.clash c e);
-        fewer = λ e. absurd (clash_stays word other p r.next r.clash c e);
+        rows = λ n e. absurd (clash_stays word other p r.next n r.rank c e);
+        message = λ e. absurd (clash_stays word other p r.next (size q m) r.rank c e);
+        fewer = λ n e. absurd (clash_stays word other p r.next n r.rank c e);
         stands = λ h.
-            clash_stands q series m word b work candidate whole p r.next l counts.within (eqb r.rank (size q m)) other r.clash c (none h);
+            clash_stands q series m word b work candidate whole p r.next l counts.within (is_complete (size q m) r.rank) other r.rank c (none h);
       }
 
   -- the candidate alone fits those below p, and from there on they are compared with its word
-  pub brings_only : (p : ℕ) → p ≤ r.next → Stopped word budget r.next r.brought → r.rank ≡ size q m
+  pub brings_only : (p n : ℕ) → p ≤ r.next → Stopped word budget r.next r.brought → n ≡ size q m
       → Vector (field_of q).size (size q m) candidate → (Before → OnlyBelow q series m word p candidate whole)
-      → Compared word whole p false r.next r.clash
+      → Compared word whole p (Some n) r.next r.rank
       → Brings q series m word budget work₀ candidate₀ whole₀ p₀ complete₀ clash₀ work candidate whole r
-  brings_only p l stops full vector only c =
+  brings_only p n l stops full vector only c =
       record {
         counts = counts;
         stops = stops;
-        rows = λ e. omega arith;
-        message = λ e n. vector;
-        fewer = λ e n. absurd (omega arith);
+        rows = λ a e. omega (arith, rows_stay word whole p r.next n a r.rank c e);
+        message = λ e. vector;
+        fewer = λ a e k. absurd (omega (arith, rows_stay word whole p r.next n a r.rank c e));
         stands = λ h.
-            only_stands q series m word b work candidate whole p r.next l counts.within (eqb r.rank (size q m)) (eq-eqb r.rank (size q m) full)
-            r.clash c (only h);
+            only_stands q series m word b work candidate whole p r.next l counts.within (is_complete (size q m) r.rank) n r.rank
+            (λ e. ap (is_complete (size q m)) e ∙ eq-eqb n (size q m) full) c (only h);
       }
 
   -- rows are missing
-  pub brings_fewer : (r₀ : ℕ) → r.clash ≡ false → r.rank < size q m → (Before → Collected q (columns_of q series) m word work₀ p₀ r₀)
-      → Collects q (columns_of q series) m word budget work₀ p₀ r₀ work r.next r.rank r.brought r.clash
+  pub brings_fewer : (n r₀ : ℕ) → r.rank ≡ Some n → n < size q m → (Before → Collected q (columns_of q series) m word work₀ p₀ r₀)
+      → Collects q (columns_of q series) m word budget work₀ p₀ r₀ work r.next (Some n) r.brought
       → Brings q series m word budget work₀ candidate₀ whole₀ p₀ complete₀ clash₀ work candidate whole r
-  brings_fewer r₀ e l before ends =
-      let c = subst (λ (x : Bool). Collects q (columns_of q series) m word budget work₀ p₀ r₀ work r.next r.rank r.brought x) e ends in
+  brings_fewer n r₀ e l before c =
       let ready = c.0.ready in
       record {
         counts = counts;
-        stops = ⊎_elim (λ n. absurd (omega arith)) (λ s. s) c.1;
-        rows = λ x. omega arith;
-        message = λ x n. absurd (omega arith);
-        fewer = λ x n. ready.ranked;
+        stops = ⊎_elim (λ x. absurd (omega arith)) (λ s. s) c.1;
+        rows = λ a d. let same : n ≡ a = cc in omega arith;
+        message = λ d. let same : n ≡ size q m = cc in absurd (omega arith);
+        fewer = λ a d k. let same : n ≡ a = cc in sym same ∙ ready.ranked;
         stands = λ h.
-            subst (λ (x : Bool). Standing q series m word work candidate whole r.next (eqb r.rank (size q m)) x) (sym e)
+            subst (λ (x : Option ℕ). Standing q series m word work candidate whole r.next (is_complete (size q m) x) (is_none x)) (sym e)
             (subst (λ (x : Bool). Standing q series m word work candidate whole r.next x false)
-            (sym (ne_eqb r.rank (size q m) (λ n. omega arith)))
+            (sym (ne_eqb n (size q m) (λ x. omega arith)))
             (subst (λ (x : ℕ). Collected q (columns_of q series) m word work r.next x) ready.ranked (c.0.collected (before h))));
       }

@@ -11,10 +11,8 @@ use lib.Dec.{T, eqb}
 use lib.ListN.{length, get_or, take}
 use lib.Seq.{length-take-le}
 use Rattle.field.specs.Curve.{IsCurve, is_short}
-use Rattle.field.specs.Outcomes.{number}
+use Rattle.field.specs.Outcomes.{Outcome, Done, number}
 use Rattle.field.specs.Values.{bad_value, first_bad}
-use Rattle.field.specs.declared.outcome.Outcome.{Outcome}
-use Rattle.field.specs.declared.outcome.Outcome.TheVariants.{Done}
 use Rattle.field.proofs.Curves.{sizes, short_true}
 use Rattle.field.proofs.Fields.{field_of}
 use Rattle.field.proofs.Outcomes.{done_or_not}

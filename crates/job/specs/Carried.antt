@@ -1,6 +1,6 @@
 -- A call that carries a job on, for every task, budget and slice.
 use Rattle.std.specs.Prelude.{cond, List, ◌⊎◌, ◌≡◌, ℕ, ◌+◌, ◌-◌, ◌*◌, eqb, leb, ltb, length}
-use Rattle.field.specs.declared.outcome.Outcome.TheVariants.{Done}
+use Rattle.field.specs.Outcomes.{Done}
 use Rattle.poly.specs.Messages.{Vector}
 use Rattle.points.specs.Series.{columns_of}
 use Rattle.code.specs.Terms.{size}

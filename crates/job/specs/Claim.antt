@@ -1,7 +1,6 @@
 -- THE CLAIM on a list of calls, the empty one too.
 use Rattle.std.specs.Prelude.{true, false, List, [], ◌∷◌, ◌⊎◌, ◌↔◌, ◌≡◌, ℕ, ◌+◌, ◌-◌, ◌*◌, ◌^◌, ◌≤◌, ◌<◌, length, get_or, take}
-use Rattle.field.specs.declared.outcome.Outcome.{Outcome}
-use Rattle.field.specs.declared.outcome.Outcome.TheVariants.{Done}
+use Rattle.field.specs.Outcomes.{Outcome, Done}
 use Rattle.poly.specs.Messages.{Vector}
 use Rattle.poly.specs.Sets.{Exactly}
 use Rattle.points.specs.Series.{columns_of}

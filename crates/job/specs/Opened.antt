@@ -1,9 +1,7 @@
 -- Opening, for every argument.
 use Rattle.std.specs.Prelude.{true, cond, List, ℕ, eqb, replicate}
 use Rattle.field.specs.Curve.{is_short}
-use Rattle.field.specs.Outcomes.{number}
-use Rattle.field.specs.declared.outcome.Outcome.{Outcome}
-use Rattle.field.specs.declared.outcome.Outcome.TheVariants.{Done}
+use Rattle.field.specs.Outcomes.{Outcome, Done, number}
 use Rattle.code.specs.Terms.{size}
 use Rattle.code.specs.Checks.{call_checks}
 use Rattle.job.specs.Task.{Task}

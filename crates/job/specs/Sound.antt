@@ -1,7 +1,7 @@
 -- The invariant of a job: openings give it, and calls keep it. It ties what a job stores besides its task to the task; nothing else is said
 -- of that, and nothing is to be believed of it here.
 use Rattle.std.specs.Prelude.{Bool, true, false, List, ◌≡◌, ℕ, ◌≤◌, length, take}
-use Rattle.field.specs.declared.outcome.Outcome.TheVariants.{Done}
+use Rattle.field.specs.Outcomes.{Done}
 use Rattle.field.proofs.Fields.{field_of}
 use Rattle.poly.specs.Messages.{Vector}
 use Rattle.poly.specs.Inner.Linear.{entry}

@@ -1,5 +1,5 @@
 // Bringing symbols of a broken word in, by ascending place, up to a budget.
-ghost use Rattle.std.specs.Prelude.{false, true, ◌≡◌, ◌*◌, ◌≤◌, ◌<◌, length};
+ghost use Rattle.std.specs.Prelude.{◌≡◌, ◌*◌, ◌≤◌, ◌<◌, length};
 ghost use Rattle.field.specs.Curve.{IsShort};
 ghost use Rattle.field.proofs.Fields.{field_of};
 ghost use Rattle.linear.specs.Inner.Systems.{flat, rank, WellFormed, Full, Solves};
@@ -15,13 +15,12 @@ use code::{encoding, term};
 use field::Curve;
 use linear::system;
 
-// How far a call has come: the next place, the rows of the system, whether the symbols contradict each other, and how many
+// How far a call has come: the next place, the rows of the system, none where the symbols contradict each other, and how many
 // this call has brought in.
 #[derive(Clone, Copy)]
 pub struct Progress {
     pub next: usize,
-    pub rank: usize,
-    pub clash: bool,
+    pub rank: Option<usize>,
     pub brought: u8,
 }
 
@@ -40,50 +39,35 @@ fn bring_equations(
     requires broken_over { BrokenOver q columns.now m word.now × (entries.now ≡ entries_of q m) × (next ≤ length word.now) × (size q m < 64) × IsShort q }
     requires ready { Ready q m work.old rows }
     ensures counted { Counted word.now budget next 0 result.next result.brought }
-    ensures collects { Collects q columns.now m word.now budget work.old next rows
-        work.new result.next result.rank result.brought result.clash }
+    ensures collects { Collects q columns.now m word.now budget work.old next rows work.new result.next result.rank result.brought }
 {
     let k = entries.len();
-    let mut p = next;
     let mut rank = rows;
     let mut brought = 0;
-    while p < word.len() {
-        let s = word[p];
-        if s != 255 {
-            if brought == budget {
-                return Progress {
-                    next: p,
-                    rank,
-                    clash: false,
-                    brought,
-                };
-            }
-            if rank == k {
-                return Progress {
-                    next: p,
-                    rank,
-                    clash: false,
-                    brought,
-                };
-            }
-            let r = equations::step(q, columns, m, entries, p, s, rank, work);
-            brought += 1;
-            if r.clash {
-                return Progress {
-                    next: p + 1,
-                    rank,
-                    clash: true,
-                    brought,
-                };
-            }
-            rank = r.rank;
+    for (p, s) in word.iter().enumerate().skip(next) {
+        if *s == 255 {
+            continue;
         }
-        p += 1;
+        if brought == budget || rank == k {
+            return Progress {
+                next: p,
+                rank: Some(rank),
+                brought,
+            };
+        }
+        brought += 1;
+        let Some(more) = equations::step(q, columns, m, entries, p, *s, rank, work) else {
+            return Progress {
+                next: p + 1,
+                rank: None,
+                brought,
+            };
+        };
+        rank = more;
     }
     Progress {
-        next: p,
-        rank,
-        clash: false,
+        next: word.len(),
+        rank: Some(rank),
         brought,
     }
 }
@@ -103,7 +87,7 @@ fn collect(
     requires well_formed { WellFormed (field_of q) 64 (size q m) work.old }
     ensures counted { Counted word.now budget next 0 result.next result.brought }
     ensures collects { Collects q (columns_of q series) m word.now budget work.old next
-        (rank (size q m) (flat 64 (size q m) work.old)) work.new result.next result.rank result.brought result.clash }
+        (rank (size q m) (flat 64 (size q m) work.old)) work.new result.next result.rank result.brought }
 {
     let mut entries = [0u16; 64];
     term::entries(q, m, &mut entries);
@@ -128,35 +112,30 @@ fn collect(
 fn compare(word: &[u8], whole: &[u8], budget: u8, from: Progress) -> Progress
     requires { (length whole.now ≡ length word.now) × (from.next ≤ length word.now) × (from.brought ≤ budget) }
     ensures counted { Counted word.now budget from.next from.brought result.next result.brought }
-    ensures stopped { Stopped word.now budget result.next result.brought × (result.rank ≡ from.rank) }
-    ensures compared { Compared word.now whole.now from.next from.clash result.next result.clash }
+    ensures stopped { Stopped word.now budget result.next result.brought }
+    ensures compared { Compared word.now whole.now from.next from.rank result.next result.rank }
 {
-    let rank = from.rank;
-    let mut p = from.next;
-    let mut clash = from.clash;
+    let mut rank = from.rank;
     let mut brought = from.brought;
-    while p < word.len() {
-        let s = word[p];
-        if s != 255 {
-            if brought == budget {
-                return Progress {
-                    next: p,
-                    rank,
-                    clash,
-                    brought,
-                };
-            }
-            if whole[p] != s {
-                clash = true;
-            }
-            brought += 1;
+    for (p, (s, other)) in word.iter().zip(whole).enumerate().skip(from.next) {
+        if *s == 255 {
+            continue;
         }
-        p += 1;
+        if brought == budget {
+            return Progress {
+                next: p,
+                rank,
+                brought,
+            };
+        }
+        if other != s {
+            rank = None;
+        }
+        brought += 1;
     }
     Progress {
-        next: p,
+        next: word.len(),
         rank,
-        clash,
         brought,
     }
 }
@@ -209,8 +188,7 @@ pub fn bring(
             budget,
             Progress {
                 next,
-                rank: 0,
-                clash: true,
+                rank: None,
                 brought: 0,
             },
         );
@@ -222,19 +200,18 @@ pub fn bring(
             budget,
             Progress {
                 next,
-                rank: k,
-                clash: false,
+                rank: Some(k),
                 brought: 0,
             },
         );
     }
     let r = collect(q, series, m, k, word, budget, next, work);
-    if r.clash {
-        return compare(word, word, budget, r);
+    match r.rank {
+        None => compare(word, word, budget, r),
+        Some(rank) if rank < k => r,
+        Some(_) => {
+            settle(q, series, m, k, work, candidate, whole);
+            compare(word, whole, budget, r)
+        }
     }
-    if r.rank < k {
-        return r;
-    }
-    settle(q, series, m, k, work, candidate, whole);
-    compare(word, whole, budget, r)
 }

@@ -6,8 +6,8 @@ pub mod testing;
 pub mod turns;
 pub mod work;
 
-ghost use Rattle.std.specs.Prelude.{true, false, ◌↔◌, ◌≡◌, ◌≤◌, length};
-ghost use Rattle.field.specs.declared.outcome.Outcome.TheVariants.{Done};
+ghost use Rattle.std.specs.Prelude.{true, ◌↔◌, ◌≡◌, ◌≤◌, length, IfSome};
+ghost use Rattle.field.specs.Outcomes.{Done};
 ghost use Rattle.job.specs.declared.Reply.TheVariants.{Refused, Finished};
 ghost use Rattle.job.specs.Task.{task_of};
 ghost use Rattle.job.specs.Opened.{opened};
@@ -18,8 +18,7 @@ ghost use Rattle.job.specs.Inner.Bringing.{Fresh, reply_by};
 
 use bringing::Progress;
 use code::term;
-use field::{Curve, Outcome};
-use poly::rows;
+use field::{Curve, Outcome, Refusal};
 
 // What a call says: it met 5; it is still working, and no message fits the symbols brought in so far, or Q^r do; or it is
 // finished, with what recovery says.
@@ -44,11 +43,13 @@ pub struct Job {
     pub series: u8,
     pub m: u16,
     pub next: u16,
+    // kept: two flags for the three stages, which the definitions `Standing`, `Tested` and `Usable` read
     pub complete: bool,
     pub clash: bool,
 }
 
 // What an opening hands back.
+// kept: a refused opening hands a job back too, that of an all-missing word; the contract of `open` reads both.
 #[derive(Clone, Copy)]
 pub struct Opening {
     pub job: Job,
@@ -56,6 +57,7 @@ pub struct Opening {
 }
 
 // What a call hands back.
+// kept: a call hands the job back with the number brought in and its reply; the contract of `carry_on` reads all three.
 #[derive(Clone, Copy)]
 pub struct Turn {
     pub job: Job,
@@ -69,7 +71,7 @@ fn fresh(q: u8, series: u8, m: u16, word: &[u8]) -> Job
     ensures { Fresh q series m word.now result }
 {
     let mut places = [255u8; 64];
-    rows::copy(word.len(), word, &mut places);
+    places[..word.len()].copy_from_slice(word);
     Job {
         work: [0; 4096],
         places,
@@ -90,56 +92,49 @@ pub fn open(q: u8, series: u8, m: u16, word: &[u8]) -> Opening
     ensures sound { Sound result.job }
 {
     let outcome = testing::opening(q, series, m, word);
-    if let Outcome::Done = outcome {
-        let job = fresh(q, series, m, word);
-        Opening { job, outcome }
-    } else {
-        let job = fresh(2, 1, 0, &[]);
-        Opening { job, outcome }
-    }
+    let job = match outcome {
+        Ok(()) => fresh(q, series, m, word),
+        Err(_) => fresh(2, 1, 0, &[]),
+    };
+    Opening { job, outcome }
 }
 
 // By what has been brought in: k is the length of a message, n that of the word.
 fn tell(k: usize, n: usize, r: Progress) -> Reply
-    requires { (k ≤ 65535) × (r.clash ≡ false → r.rank ≤ k) }
+    requires { (k ≤ 65535) × IfSome r.rank (λ rows. rows ≤ k) }
     ensures { result ≡ reply_by k n r }
 {
     if r.next < n {
-        if r.clash {
-            return Reply::NoneFits;
-        }
-        return Reply::Leaves((k - r.rank) as u16);
+        return match r.rank {
+            None => Reply::NoneFits,
+            Some(rank) => Reply::Leaves((k - rank) as u16),
+        };
     }
-    if r.clash {
-        return Reply::Finished(Outcome::NoMessage);
-    }
-    if r.rank < k {
-        return Reply::Finished(Outcome::Several((k - r.rank) as u16));
-    }
-    Reply::Finished(Outcome::Done)
+    Reply::Finished(match r.rank {
+        None => Err(Refusal::NoMessage),
+        Some(rank) if rank < k => Err(Refusal::Several((k - rank) as u16)),
+        Some(_) => Ok(()),
+    })
 }
 
 // Whether a call gives a message, which then stands in the slice.
 pub fn is_message(reply: Reply) -> bool
     ensures { (result ≡ true) ↔ (reply ≡ Finished Done) }
 {
-    if let Reply::Finished(o) = reply {
-        if let Outcome::Done = o {
-            return true;
-        }
-    }
-    false
+    matches!(reply, Reply::Finished(Ok(())))
 }
 
 // What a reply says, as an outcome: 5; 9 or 10 of a job that is still working; or recovery's.
-pub fn outcome(reply: Reply) -> Outcome
-    ensures { result ≡ outcome_of reply }
-{
-    match reply {
-        Reply::Refused => Outcome::BadRoom,
-        Reply::NoneFits => Outcome::NoMessage,
-        Reply::Leaves(r) => Outcome::Several(r),
-        Reply::Finished(o) => o,
+impl From<Reply> for Outcome {
+    ghost from_gives = { λ reply r. r ≡ outcome_of reply };
+
+    fn from(reply: Reply) -> Outcome {
+        match reply {
+            Reply::Refused => Err(Refusal::BadRoom),
+            Reply::NoneFits => Err(Refusal::NoMessage),
+            Reply::Leaves(r) => Err(Refusal::Several(r)),
+            Reply::Finished(outcome) => outcome,
+        }
     }
 }
 
@@ -151,6 +146,7 @@ impl Job {
         ensures sound { Sound self → Sound result.job × (carried (task_of self) budget message.old
             ≡ record { task = task_of result.job; brought = result.brought; reply = result.reply; slice = message.new }) }
     {
+        // kept: the arrays are copied, since a part of a field's array that is lent beside other fields gets no proof.
         let places = self.places;
         let mut candidate = self.candidate;
         let mut whole = self.whole;
@@ -158,10 +154,16 @@ impl Job {
         let series = self.series;
         let m = self.m as usize;
         let next = self.next as usize;
-        let complete = self.complete;
-        let clash = self.clash;
         if testing::usable(
-            q, series, self.m, next, complete, clash, &places, &candidate, &self.work,
+            q,
+            series,
+            self.m,
+            next,
+            self.complete,
+            self.clash,
+            &places,
+            &candidate,
+            &self.work,
         ) {
             let k = term::size(q, m);
             if message.len() == k {
@@ -175,8 +177,8 @@ impl Job {
                     &places[..n],
                     budget,
                     next,
-                    complete,
-                    clash,
+                    self.complete,
+                    self.clash,
                     &mut self.work,
                     &mut candidate[..k],
                     &mut whole[..n],
@@ -184,11 +186,11 @@ impl Job {
                 self.candidate = candidate;
                 self.whole = whole;
                 self.next = r.next as u16;
-                self.complete = r.rank == k;
-                self.clash = r.clash;
+                self.complete = r.rank == Some(k);
+                self.clash = r.rank.is_none();
                 let said = tell(k, n, r);
                 if is_message(said) {
-                    rows::copy(k, &candidate, message);
+                    message.copy_from_slice(&candidate[..k]);
                 }
                 return Turn {
                     job: self,

@@ -15,10 +15,7 @@ pub fn opening(q: u8, series: u8, m: u16, word: &[u8]) -> Outcome
 {
     let order = m as usize;
     let taken = field::curve::is_short(q);
-    let first = check::order(taken, q, series, order);
-    let Outcome::Done = first else {
-        return first;
-    };
+    check::order(taken, q, series, order)?;
     check::call(
         taken,
         true,
@@ -73,9 +70,9 @@ pub fn usable(
     }
     let curve = Curve::at(q);
     let n = curve.points;
-    let Outcome::Done = opening(q, series, m, &places[..n]) else {
+    if opening(q, series, m, &places[..n]).is_err() {
         return false;
-    };
+    }
     if n < next {
         return false;
     }

@@ -14,11 +14,8 @@ fn carry_through(mut job: Job, budgets: &[u8], message: &mut [u8]) -> Job
     requires { Sound job }
     ensures { Carries job.q job.series job.m (stored_word job) message.old result message.new }
 {
-    let mut i = 0;
-    while i < budgets.len() {
-        let turn = job.carry_on(budgets[i], message);
-        job = turn.job;
-        i += 1;
+    for budget in budgets {
+        job = job.carry_on(*budget, message).job;
     }
     job
 }
@@ -36,14 +33,8 @@ pub fn recover_in_turns(
     ensures { recovered q series m word.now message.old ≡ answered result message.new }
 {
     let opening = crate::open(q, series, m, word);
-    let outcome = opening.outcome;
-    if let Outcome::Done = outcome {
-        let start = opening.job;
-        let job = carry_through(start, budgets, message);
-        let turn = job.carry_on(255, message);
-        let reply = turn.reply;
-        crate::outcome(reply)
-    } else {
-        outcome
-    }
+    opening.outcome?;
+    let job = carry_through(opening.job, budgets, message);
+    let turn = job.carry_on(255, message);
+    turn.reply.into()
 }

@@ -12,21 +12,11 @@ fn row_formed(k: usize, p: usize, work: &[u8]) -> bool
     ensures { result ≡ row_formed 64 k work.now p }
 {
     let base = p * 64;
-    let own = work[base + p];
-    if own > 1 {
-        return false;
+    match work[base + p] {
+        0 => true,
+        1 => work[base + p + 1..base + k].iter().all(|x| *x == 0),
+        _ => false,
     }
-    if own == 0 {
-        return true;
-    }
-    let mut j = p + 1;
-    while j < k {
-        if work[base + j] != 0 {
-            return false;
-        }
-        j += 1;
-    }
-    true
 }
 
 // Whether every row is formed.
@@ -34,14 +24,7 @@ fn rows(k: usize, work: &[u8]) -> bool
     requires { (k < 64) × (length work.now ≡ 4096) }
     ensures { result ≡ rows_formed 64 k work.now }
 {
-    let mut p = 0;
-    while p < k {
-        if !row_formed(k, p, work) {
-            return false;
-        }
-        p += 1;
-    }
-    true
+    (0..k).all(|p| row_formed(k, p, work))
 }
 
 // Whether the slice is a well-formed system.
@@ -60,14 +43,5 @@ pub fn rank(k: usize, work: &[u8]) -> usize
     requires { (k < 64) × (length work.now ≡ 4096) }
     ensures { result ≡ rank k (flat 64 k work.now) }
 {
-    let mut n = 0;
-    let mut p = 0;
-    while p < k {
-        let at = p * 64 + p;
-        if work[at] == 1 {
-            n += 1;
-        }
-        p += 1;
-    }
-    n
+    (0..k).filter(|p| work[*p * 64 + *p] == 1).count()
 }

@@ -25,8 +25,7 @@ use Rattle.linear.specs.Inner.Combinations.{rows_from, clear, Eliminated}
 use Rattle.linear.specs.Inner.Eliminating.{marked, Last, Table, Multiples, Clearing, AllCleared, PivotTaken, Stepped}
 use Rattle.poly.proofs.Writes.{length_writes, writes_in, below_writes}
 use Rattle.poly.proofs.Entries.{zeros}
-use Rattle.poly.proofs.Parts.{length_part, part_at, below_part, put_is, length_put, put_in, put_low, put_high, below_back}
-use Rattle.poly.proofs.Blocks.{block_start}
+use Rattle.poly.proofs.Parts.{length_part, part_at, below_part, put_is, put_in, put_low, put_high, below_back}
 use Rattle.linear.proofs.Pivots.{eliminated_none, eliminated_free, eliminated_pivot, cleared_rows}
 
 -- ---- the search for a pivot, downwards
@@ -97,34 +96,25 @@ clearing_of F half n m i c factors low top e h = subst (λ (k : ℕ). Clearing F
 
 -- ---- the vectors are cleared one after the other
 
--- the first k of the vectors are cleared, which end at `at`
-pub record ClearedTo (F : Field) (n i c count : ℕ) (low vectors₀ vectors : List ℕ) (k at : ℕ) : Type 0 where
-  pub within : k ≤ count
-  pub is_at : at ≡ n * k
-  pub long : length vectors ≡ length vectors₀
-  pub cleared : AllCleared F n i c (λ j. entry low (n + j)) vectors₀ vectors k
-
 module _ (F : Field) (n i c count : ℕ) (low vectors₀ : List ℕ) (at_i : i < n) (long : length vectors₀ ≡ n * count) where
-  pub cleared_none : Below F.size vectors₀ → ClearedTo F n i c count low vectors₀ vectors₀ 0 0
-  cleared_none b =
-      record {
-        within = omega arith;
-        is_at = sym (mul-zero n);
-        long = refl;
-        cleared = record { symbols = b; done = λ p j a. absurd (omega arith); kept = λ j a. refl };
-      }
+  pub cleared_none : Below F.size vectors₀ → AllCleared F n i c (λ j. entry low (n + j)) vectors₀ vectors₀ 0
+  cleared_none b = record { symbols = b; done = λ p j a. absurd (omega arith); kept = λ j a. refl }
 
-  module _ (vectors : List ℕ) (k at : ℕ) (h : ClearedTo F n i c count low vectors₀ vectors k at) (more : k < count) where
+  module _ (vectors : List ℕ) (k : ℕ) (same_long : length vectors ≡ length vectors₀)
+      (h : AllCleared F n i c (λ j. entry low (n + j)) vectors₀ vectors k) (more : k < count) where
+    abbrev at : ℕ
+    at = n * k
+
     abbrev row : List ℕ
     row = part vectors at (at + n)
 
-    pub row_fits : at + n ≤ length vectors
-    row_fits = omega (arith, h.is_at, h.long, long, mul-suc n k, mul-le-mul_left n more)
+    pub row_fits : n * k + n ≤ length vectors
+    row_fits = omega (arith, same_long, long, mul-suc n k, mul-le-mul_left n more)
 
-    pub row_long : length (part vectors at (at + n)) ≡ n
+    pub row_long : length (part vectors (n * k) (n * k + n)) ≡ n
     row_long = length_part vectors at (at + n) (omega arith) row_fits ∙ omega arith
 
-    module _ (last : List ℕ) (e : last ≡ cleared F i c (λ j. entry low (length (part vectors at (at + n)) + j)) (part vectors at (at + n))) where
+    module _ (last : List ℕ) (e : last ≡ cleared F i c (λ j. entry low (length (part vectors (n * k) (n * k + n)) + j)) (part vectors (n * k) (n * k + n))) where
       last_long : length last ≡ at + n - at
       last_long = ap length e ∙ length_cleared F i c _ row ∙ row_long ∙ omega arith
 
@@ -134,10 +124,10 @@ module _ (F : Field) (n i c count : ℕ) (low vectors₀ : List ℕ) (at_i : i <
       at_row : (p j : ℕ) → p < k + 1 → j < n → Dec (p ≡ k)
           → entry back (n * p + j) ≡ plus (entry vectors₀ (n * p + j)) (F.times (F.times (entry vectors₀ (n * p + i)) c) (entry low (n + j)))
       at_row p j a b (yes d) =
-          let same : at ≡ n * p = omega (arith, h.is_at, ap (λ (x : ℕ). n * x) d) in
+          let same : at ≡ n * p = omega (arith, ap (λ (x : ℕ). n * x) d) in
           let place : n * p + j ≡ at + j = omega arith in
           let old : (j : ℕ) → j < n → entry row j ≡ entry vectors₀ (n * p + j)
-          = λ j b. part_at vectors at (at + n) j (omega arith) ∙ h.cleared.kept (at + j) (omega (arith, h.is_at))
+          = λ j b. part_at vectors at (at + n) j (omega arith) ∙ h.kept (at + j) (omega arith)
           ∙ ap (λ (x : ℕ). entry vectors₀ (x + j)) same in
           ap (entry back) place ∙ put_in vectors at (at + n) last (omega arith) row_fits last_long j (omega arith)
           ∙ ap (λ (x : List ℕ). entry x j) e ∙ cleared_at F i c (λ j. entry low (length row + j)) row j (omega (arith, row_long))
@@ -145,32 +135,21 @@ module _ (F : Field) (n i c count : ℕ) (low vectors₀ : List ℕ) (at_i : i <
           (ap₂ (λ (x y : ℕ). F.times (F.times x c) (entry low (y + j))) (old i at_i) row_long)
       at_row p j a b (no d) =
           let l : p < k = omega arith in
-          put_low vectors at (at + n) last (omega arith) row_fits last_long (n * p + j) (omega (arith, h.is_at, mul-suc n p, mul-le-mul_left n l))
-          ∙ h.cleared.done p j l b
+          put_low vectors at (at + n) last (omega arith) row_fits last_long (n * p + j) (omega (arith, mul-suc n p, mul-le-mul_left n l))
+          ∙ h.done p j l b
 
-      pub cleared_turn : ClearedTo F n i c count low vectors₀ (put_mid at (at + n - at) vectors last) (k + 1) (at + n)
+      pub cleared_turn : AllCleared F n i c (λ j. entry low (n + j)) vectors₀ (put_mid (n * k) (n * k + n - n * k) vectors last) (k + 1)
       cleared_turn =
           let is : put_mid at (at + n - at) vectors last ≡ back = put_is vectors at (at + n) last (omega arith) in
           record {
-            within = omega arith;
-            is_at = block_start n k at (at + n) h.is_at refl;
-            long = ap length is ∙ length_put vectors at (at + n) last (omega arith) row_fits last_long ∙ h.long;
-            cleared = record {
-              symbols = below_back F.size vectors last at (at + n) (omega arith) row_fits last_long h.cleared.symbols
-                  (rw e (below_cleared F i c (λ j. entry low (length row + j)) row (below_part F.size vectors at (at + n) h.cleared.symbols)));
-              done = λ p j a b. ap (λ (x : List ℕ). entry x (n * p + j)) is ∙ at_row p j a b (ℕ_discrete p k);
-              kept = λ j a.
-                  let b : at + n ≤ j = omega (arith, h.is_at, mul-suc n k, ap (λ (x : ℕ). n * x) (add-one k)) in
-                  ap (λ (x : List ℕ). entry x j) is
-                  ∙ put_high vectors at (at + n) last (omega arith) row_fits last_long j b ∙ h.cleared.kept j (omega (arith, h.is_at));
-            };
+            symbols = below_back F.size vectors last at (at + n) (omega arith) row_fits last_long h.symbols
+                (rw e (below_cleared F i c (λ j. entry low (length row + j)) row (below_part F.size vectors at (at + n) h.symbols)));
+            done = λ p j a b. ap (λ (x : List ℕ). entry x (n * p + j)) is ∙ at_row p j a b (ℕ_discrete p k);
+            kept = λ j a.
+                let b : at + n ≤ j = omega (arith, mul-suc n k, ap (λ (x : ℕ). n * x) (add-one k)) in
+                ap (λ (x : List ℕ). entry x j) is
+                ∙ put_high vectors at (at + n) last (omega arith) row_fits last_long j b ∙ h.kept j (omega arith);
           }
-
-  pub cleared_end : (vectors : List ℕ) (k at : ℕ) → ClearedTo F n i c count low vectors₀ vectors k at → count ≤ k
-      → AllCleared F n i c (λ j. entry low (n + j)) vectors₀ vectors count
-  cleared_end vectors k at h l =
-      let e : k ≡ count = omega (arith, h.within) in
-      subst (λ (x : ℕ). AllCleared F n i c (λ j. entry low (n + j)) vectors₀ vectors x) e h.cleared
 
 -- ---- the table of factors
 
@@ -338,10 +317,7 @@ module _ (high vectors : List ℕ) (p : ℕ) (last : Last high (take (length hig
 -- ---- the loop over the vectors
 
 -- the first t vectors were taken, and rank of them were pivots
-pub record Eliminating (F : Field) (count : ℕ) (high vectors₀ vectors grid₀ grid : List ℕ) (rank t at : ℕ) : Type 0 where
-  pub is_at : at ≡ length high * t
-  pub long : length vectors ≡ length vectors₀
-  pub grid_long : length grid ≡ length grid₀
+pub record Eliminating (F : Field) (count : ℕ) (high vectors₀ vectors grid₀ grid : List ℕ) (rank t : ℕ) : Type 0 where
   pub symbols : Below F.size vectors
   pub grid_symbols : Below F.size grid
   pub eliminated : Eliminated F (marked high) (length high) count (rows_from (length high) 0 vectors₀ grid₀) t rank
@@ -351,69 +327,70 @@ module _ (F : Field) (count : ℕ) (high vectors₀ grid₀ : List ℕ) (long : 
   abbrev n : ℕ
   n = length high
 
-  pub eliminating_none : Below F.size vectors₀ → Below F.size grid₀ → Eliminating F count high vectors₀ vectors₀ grid₀ grid₀ 0 0 0
+  pub eliminating_none : Below F.size vectors₀ → Below F.size grid₀ → Eliminating F count high vectors₀ vectors₀ grid₀ grid₀ 0 0
   eliminating_none a b =
       record {
-        is_at = sym (mul-zero n);
-        long = refl;
-        grid_long = refl;
         symbols = a;
         grid_symbols = b;
         eliminated = eliminated_none F (marked high) n count _ (record { vectors = λ p i x y. a _; added = λ i y. b _ });
       }
 
-  pub eliminating_end : (vectors grid : List ℕ) (rank t at : ℕ) → Eliminating F count high vectors₀ vectors grid₀ grid rank t at → count ≤ t
+  pub eliminating_end : (vectors grid : List ℕ) (rank t : ℕ) → Eliminating F count high vectors₀ vectors grid₀ grid rank t → count ≤ t
       → Eliminated F (marked high) n count (rows_from n 0 vectors₀ grid₀) count rank (rows_from n count vectors grid)
-  eliminating_end vectors grid rank t at h l =
+  eliminating_end vectors grid rank t h l =
       let e : t ≡ count = omega (arith, h.eliminated.within) in
       subst (λ (x : ℕ). Eliminated F (marked high) n count (rows_from n 0 vectors₀ grid₀) x rank (rows_from n x vectors grid)) e h.eliminated
 
-  module _ (vectors grid : List ℕ) (rank t at : ℕ) (h : Eliminating F count high vectors₀ vectors grid₀ grid rank t at) (more : t < count) where
+  module _ (vectors grid : List ℕ) (rank t : ℕ) (same_long : length vectors ≡ length vectors₀)
+      (h : Eliminating F count high vectors₀ vectors grid₀ grid rank t) (more : t < count) where
+    abbrev start : ℕ
+    start = n * t
+
     all_long : length vectors ≡ n * count
-    all_long = h.long ∙ long
+    all_long = same_long ∙ long
 
-    pub next_fits : at + length high ≤ length vectors
-    next_fits = omega (arith, h.is_at, all_long, mul-suc n t, mul-le-mul_left n more)
+    pub next_fits : length high * t + length high ≤ length vectors
+    next_fits = omega (arith, all_long, mul-suc n t, mul-le-mul_left n more)
 
-    pub rest_fits : at ≤ length vectors
+    pub rest_fits : length high * t ≤ length vectors
     rest_fits = omega (arith, next_fits)
 
     abbrev rest : List ℕ
-    rest = part vectors at (length vectors)
+    rest = part vectors start (length vectors)
 
-    pub rest_long : length (part vectors at (length vectors)) ≡ length high * (count - t - 1 + 1)
+    pub rest_long : length (part vectors (length high * t) (length vectors)) ≡ length high * (count - t - 1 + 1)
     rest_long =
         let e : t + (count - t - 1 + 1) ≡ count = omega arith in
-        length_part vectors at (length vectors) rest_fits (omega arith)
-        ∙ omega (arith, h.is_at, all_long, mul-add n t (count - t - 1 + 1), ap (λ (x : ℕ). n * x) e)
+        length_part vectors start (length vectors) rest_fits (omega arith)
+        ∙ omega (arith, all_long, mul-add n t (count - t - 1 + 1), ap (λ (x : ℕ). n * x) e)
 
-    module _ (last grid' : List ℕ) (r : ℕ) (last_long : length last ≡ length (part vectors at (length vectors)))
-        (step : Stepped F (count - t - 1) high (part vectors at (length vectors)) last grid grid' r) where
+    module _ (last grid' : List ℕ) (r : ℕ) (last_long : length last ≡ length (part vectors (length high * t) (length vectors)))
+        (step : Stepped F (count - t - 1) high (part vectors (length high * t) (length vectors)) last grid grid' r) where
       abbrev next : List ℕ
-      next = put_mid at (length vectors - at) vectors last
+      next = put_mid start (length vectors - start) vectors last
 
-      back_long : length last ≡ length vectors - at
-      back_long = last_long ∙ length_part vectors at (length vectors) rest_fits (omega arith)
+      back_long : length last ≡ length vectors - start
+      back_long = last_long ∙ length_part vectors start (length vectors) rest_fits (omega arith)
 
-      row_in : (p i : ℕ) → p < count → t ≤ p → i < n → at + (n * (p - t) + i) < length vectors
+      row_in : (p i : ℕ) → p < count → t ≤ p → i < n → start + (n * (p - t) + i) < length vectors
       row_in p i a b l =
           let e : t + (p - t) ≡ p = omega arith in
-          omega (arith, h.is_at, all_long, mul-add n t (p - t), ap (λ (x : ℕ). n * x) e, mul-suc n p, mul-le-mul_left n a)
+          omega (arith, all_long, mul-add n t (p - t), ap (λ (x : ℕ). n * x) e, mul-suc n p, mul-le-mul_left n a)
 
-      row_at : (p i : ℕ) → t ≤ p → at + (n * (p - t) + i) ≡ n * p + i
+      row_at : (p i : ℕ) → t ≤ p → start + (n * (p - t) + i) ≡ n * p + i
       row_at p i b =
-          let e : t + (p - t) ≡ p = omega arith in omega (arith, h.is_at, mul-add n t (p - t), e, ap (λ (x : ℕ). n * x) e)
+          let e : t + (p - t) ≡ p = omega arith in omega (arith, mul-add n t (p - t), e, ap (λ (x : ℕ). n * x) e)
 
       -- row p of them all
       old_row : (p i : ℕ) → t ≤ p → p < count → i < n → entry rest (n * (p - t) + i) ≡ entry vectors (n * p + i)
-      old_row p i a b l = part_at vectors at (length vectors) (n * (p - t) + i) (row_in p i b a l) ∙ ap (entry vectors) (row_at p i a)
+      old_row p i a b l = part_at vectors start (length vectors) (n * (p - t) + i) (row_in p i b a l) ∙ ap (entry vectors) (row_at p i a)
 
       new_row : (p i : ℕ) → t ≤ p → p < count → i < n → entry next (n * p + i) ≡ entry last (n * (p - t) + i)
       new_row p i a b l =
           let k = row_in p i b a l in
           ap (entry next) (sym (row_at p i a))
-          ∙ ap (λ (y : List ℕ). entry y (at + (n * (p - t) + i))) (put_is vectors at (length vectors) last rest_fits)
-          ∙ put_in vectors at (length vectors) last rest_fits (omega arith) back_long (n * (p - t) + i) (omega (arith, k))
+          ∙ ap (λ (y : List ℕ). entry y (start + (n * (p - t) + i))) (put_is vectors start (length vectors) last rest_fits)
+          ∙ put_in vectors start (length vectors) last rest_fits (omega arith) back_long (n * (p - t) + i) (omega (arith, k))
 
       first : (i : ℕ) → i < n → entry rest i ≡ entry vectors (n * t + i)
       first i l =
@@ -452,29 +429,25 @@ module _ (F : Field) (count : ℕ) (high vectors₀ grid₀ : List ℕ) (long : 
           ∙ inverse (entry vectors (n * p + w.0)) i l))
           (λ i l. w.4.apart i l ∙ ap (plus (entry grid i)) (inverse (entry grid w.0) i l)))
 
-      pub eliminating_turn : length grid' ≡ length grid
-          → Eliminating F count high vectors₀ (put_mid at (length vectors - at) vectors last) grid₀ grid' (rank + r) (t + 1) (at + length high)
-      eliminating_turn same = go (ℕ_discrete r 0)
+      pub eliminating_turn : Eliminating F count high vectors₀ (put_mid (length high * t) (length vectors - length high * t) vectors last) grid₀ grid'
+          (rank + r) (t + 1)
+      eliminating_turn = go (ℕ_discrete r 0)
         where
           made : Below F.size last → Below F.size grid'
               → Eliminated F (marked high) n count (rows_from n 0 vectors₀ grid₀) (t + 1) (rank + r) (rows_from n (t + 1) next grid')
-              → Eliminating F count high vectors₀ next grid₀ grid' (rank + r) (t + 1) (at + n)
+              → Eliminating F count high vectors₀ next grid₀ grid' (rank + r) (t + 1)
           made a b e =
               record {
-                is_at = block_start n t at (at + n) h.is_at refl;
-                long = ap length (put_is vectors at (length vectors) last rest_fits)
-                    ∙ length_put vectors at (length vectors) last rest_fits (omega arith) back_long ∙ h.long;
-                grid_long = same ∙ h.grid_long;
-                symbols = below_back F.size vectors last at (length vectors) rest_fits (omega arith) back_long h.symbols a;
+                symbols = below_back F.size vectors last start (length vectors) rest_fits (omega arith) back_long h.symbols a;
                 grid_symbols = b;
                 eliminated = e;
               }
 
-          go : Dec (r ≡ 0) → Eliminating F count high vectors₀ next grid₀ grid' (rank + r) (t + 1) (at + n)
+          go : Dec (r ≡ 0) → Eliminating F count high vectors₀ next grid₀ grid' (rank + r) (t + 1)
           go (yes e) =
               let z = step.none e in
               let w : rank + r ≡ rank = omega arith in
-              made (rw z.1 (below_part F.size vectors at (length vectors) h.symbols)) (rw z.2 h.grid_symbols) (rw w (next_none e))
+              made (rw z.1 (below_part F.size vectors start (length vectors) h.symbols)) (rw z.2 h.grid_symbols) (rw w (next_none e))
           go (no d) =
               let one : r ≡ 1 = omega (arith, step.few) in
               let w = (step.some one).4 in

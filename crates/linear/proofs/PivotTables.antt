@@ -22,7 +22,7 @@ use Rattle.poly.specs.Inner.Rows.{stored, cleared}
 use Rattle.linear.specs.Inner.Eliminating.{Table, Multiples, Doubled, Clearing}
 use Rattle.poly.proofs.Entries.{zeros, get_or_zeros}
 use Rattle.poly.proofs.Parts.{length_part, part_at, put_is, length_put, put_low, put_in, put_high, below_put, below_part}
-use Rattle.poly.proofs.Multiples.{length_stored, stored_in, stored_all}
+use Rattle.poly.proofs.Multiples.{length_stored, stored_in}
 use Rattle.poly.proofs.LaneLaws.{lanes_at, lanes_below}
 use Rattle.poly.proofs.Writes.{length_writes, writes_in, below_writes, writes_cong}
 
@@ -316,13 +316,12 @@ module _ (q n : ℕ) (table : List ℕ) (h : Table (field_of q) n (half_of q) ta
   row_long = length_part table n (2 * n) (omega arith) (two_rows (field_of q) n (half_of q) table h (two_le_half q)) ∙ omega arith
 
   -- v is copied to it
-  pub row_copied : (last v : List ℕ) → length v ≡ n → Below (field_of q).size v → last ≡ stored n v (part table n (2 * n))
+  pub row_copied : (last v : List ℕ) → length v ≡ n → Below (field_of q).size v → last ≡ v
       → Table (field_of q) n (half_of q) (put_mid n (2 * n - n) table last)
       × ((j : ℕ) → j < n → entry (put_mid n (2 * n - n) table last) (n + j) ≡ entry v j)
   row_copied last v long small e =
-      let same : last ≡ v = e ∙ stored_all n v (part table n (2 * n)) long row_long in
       let two = two_le_half q in
-      rw same (table_put (field_of q) n (half_of q) table v h two long small, row_put (field_of q) n (half_of q) table v h two long)
+      rw e (table_put (field_of q) n (half_of q) table v h two long small, row_put (field_of q) n (half_of q) table v h two long)
 
   -- z times src is written to it
   pub row_doubled : (last src : List ℕ) → length src ≡ n

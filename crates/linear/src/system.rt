@@ -6,6 +6,7 @@ ghost use Rattle.poly.specs.Inner.Linear.{entry, dot};
 ghost use Rattle.poly.specs.Inner.Rows.{divided, placed};
 ghost use Rattle.linear.specs.Inner.Systems.{flat, WellFormed, Equation, Reduced, Brought, Solution, FirstFree, Fixed, NonzeroSolved};
 
+use field::symbol::{Product, ShortBlocks};
 use poly::rows;
 
 // What bringing in an equation did: a row more; nothing, for it held already; nothing, for it never holds.
@@ -23,34 +24,29 @@ fn dot(q: u8, start: u8, n: usize, a: &[u8], b: &[u8]) -> u8
     ensures { result ≡ plus start (dot (field_of q) n (entry a.now) (entry b.now)) }
 {
     let mut r = start;
-    let mut j = 0;
-    while j < n {
-        r = r ^ field::symbol::times_short(q, a[j], b[j]);
-        j += 1;
+    for j in 0..n {
+        r = r ^ ShortBlocks::times(q, a[j], b[j]);
     }
     r
 }
 
 // Takes the rows of work that are present out of row. Answers 0 where no coefficient is left, and else one more than the
-// place of the last that is left, where work has no row. The first 16 times blocks elements of a row are added, k and more.
+// place of the last that is left, where work has no row (kept: a number, as `Reduced` has it). The first 16 times blocks elements of a row are added, k and more.
 fn reduce(q: u8, stride: usize, blocks: usize, k: usize, work: &[u8], row: &mut [u8]) -> usize
     requires well_formed { WellFormed (field_of q) stride k work.now × Equation (field_of q) k row.old × (q ≡ 8 → ⊥) }
     requires k_bound { (k < 16 * blocks) × (16 * blocks ≤ stride) × (16 * blocks ≤ length row.old) }
     ensures { Reduced (field_of q) k (flat stride k work.now) row.old row.new result }
 {
-    let mut p = k;
-    while 0 < p {
-        let i = p - 1;
+    for i in (0..k).rev() {
         let c = row[i];
         if c != 0 {
             let base = i * stride;
             if work[base + i] == 0 {
-                return p;
+                return i + 1;
             }
             let end = base + stride;
             rows::add_scaled(q, c, blocks, &work[base..end], row);
         }
-        p = i;
     }
     0
 }
@@ -99,29 +95,25 @@ pub fn solve(q: u8, stride: usize, k: usize, work: &[u8], message: &mut [u8])
     requires { WellFormed (field_of q) stride k work.now × (k ≤ length message.old) × (q ≡ 8 → ⊥) }
     ensures { Solution (field_of q) k (flat stride k work.now) message.new }
 {
-    let mut p = 0;
-    while p < k {
+    for p in 0..k {
         let base = p * stride;
         let end = base + stride;
         let start = work[base + k];
         message[p] = dot(q, start, p, &work[base..end], message);
-        p += 1;
     }
 }
 
-// The first unknown that has no row, and k where all have one.
+// The first unknown that has no row, and k where all have one (kept: a number, as `FirstFree` has it).
 fn free_unknown(stride: usize, k: usize, work: &[u8]) -> usize
     requires { (k < stride) × (length work.now ≡ stride * stride) }
     ensures { FirstFree k (flat stride k work.now) result }
 {
-    let mut p = 0;
-    while p < k {
+    for p in 0..k {
         if work[p * stride + p] != 1 {
             return p;
         }
-        p += 1;
     }
-    p
+    k
 }
 
 // Brings in the equation that unknown p, which has no row, is 1.

@@ -10,48 +10,32 @@ ghost use Rattle.poly.specs.Inner.Rows.{cleared};
 ghost use Rattle.linear.specs.Inner.Combinations.{rows_from, Eliminated};
 ghost use Rattle.linear.specs.Inner.Eliminating.{marked, Masks, Last, Table, Multiples, Doubled, Clearing, AllCleared, PivotTaken, Stepped};
 
+use field::symbol::{LongBlocks, Product, ShortBlocks};
 use poly::{lanes, rows};
 
-// One more than the last place where neither high nor v is 0; 0 where there is none. Marks are masks, so that one test at a place does: with a
+// One more than the last place where neither high nor v is 0; 0 where there is none (kept: a number, as `Last` has it). Marks are masks, so that one test at a place does: with a
 // test for the mark and one for the symbol, marks that stand in no order would be guessed wrong again and again.
 pub fn pivot(high: &[u8], v: &[u8]) -> usize
     requires { (length high.now ≡ length v.now) × Masks high.now }
     ensures { Last high.now v.now result }
 {
-    let mut p = high.len();
-    while 0 < p {
-        let i = p - 1;
+    for i in (0..high.len()).rev() {
         if high[i] & v[i] != 0 {
-            return p;
+            return i + 1;
         }
-        p = i;
     }
     0
 }
 
-// factors[s] = s * c for each symbol s, of short blocks.
-fn write_factors_short(q: u8, c: u8, factors: &mut [u8])
-    requires { (c < (field_of q).size) × (length factors.old ≡ (field_of q).size) × (q ≡ 8 → ⊥) }
+// factors[s] = s * c for each symbol s, of one kind of block.
+fn write_factors_in<P: Product>(q: u8, c: u8, factors: &mut [u8])
+    requires blocks { P.takes q }
+    requires symbols { (c < (field_of q).size) × (length factors.old ≡ (field_of q).size) }
     ensures { factors.new ≡ writes factors.old (field_of q).size (λ s. (field_of q).times s c) }
 {
     let factor = [c; 64];
-    let mut s = 0;
-    while s < factors.len() {
-        factors[s] = field::symbol::times_short(q, s as u8, factor[s]);
-        s += 1;
-    }
-}
-
-// The same of long blocks.
-fn write_factors_long(c: u8, factors: &mut [u8])
-    requires { (c < (field_of 8).size) × (length factors.old ≡ (field_of 8).size) }
-    ensures { factors.new ≡ writes factors.old (field_of 8).size (λ s. (field_of 8).times s c) }
-{
-    let factor = [c; 64];
-    let mut s = 0;
-    while s < factors.len() {
-        factors[s] = field::symbol::times_long(s as u8, factor[s]);
-        s += 1;
+    for s in 0..factors.len() {
+        factors[s] = P::times(q, s as u8, factor[s]);
     }
 }
 
@@ -60,9 +44,9 @@ fn write_factors(q: u8, c: u8, factors: &mut [u8])
     ensures { factors.new ≡ writes factors.old (field_of q).size (λ s. (field_of q).times s c) }
 {
     if q == 8 {
-        write_factors_long(c, factors);
+        write_factors_in::<LongBlocks>(q, c, factors);
     } else {
-        write_factors_short(q, c, factors);
+        write_factors_in::<ShortBlocks>(q, c, factors);
     }
 }
 
@@ -74,8 +58,8 @@ fn double(q: u8, n: usize, a: usize, table: &mut [u8])
     let from = n * a;
     let even = 2 * from;
     let odd = even + n;
-    let mut j = 0;
-    while j < n {
+    for i in 0..n / 16 {
+        let j = 16 * i;
         let row = lanes::take(table, from + j);
         let first = lanes::take(table, n + j);
         let double = lanes::times_z(q, &row);
@@ -86,7 +70,6 @@ fn double(q: u8, n: usize, a: usize, table: &mut [u8])
         let next = odd + j;
         let stop = next + 16;
         rows::copy(16, &sum, &mut table[next..stop]);
-        j += 16;
     }
 }
 
@@ -101,10 +84,8 @@ fn write_multiples(q: u8, n: usize, table: &mut [u8])
     if 2 < half {
         double(q, n, 1, table);
     }
-    let mut a = 2;
-    while 2 * a < half {
+    for a in 2..half / 2 {
         double(q, n, a, table);
-        a += 1;
     }
 }
 
@@ -114,13 +95,12 @@ fn times_z(q: u8, src: &[u8], dst: &mut [u8])
     ensures { dst.new ≡ writes dst.old (length src.now)
         (λ j. (field_of q).times 2 (entry src.now j)) }
 {
-    let mut j = 0;
-    while j < src.len() {
+    for i in 0..src.len() / 16 {
+        let j = 16 * i;
         let a = lanes::take(src, j);
         let b = lanes::times_z(q, &a);
         let end = j + 16;
         rows::copy(16, &b, &mut dst[j..end]);
-        j = end;
     }
 }
 
@@ -136,7 +116,7 @@ fn write_tables(q: u8, v: &[u8], low: &mut [u8], top: &mut [u8])
 {
     let n = v.len();
     let two = 2 * n;
-    rows::copy(n, v, &mut low[n..two]);
+    low[n..two].copy_from_slice(v);
     write_multiples(q, n, low);
     let from = n * (field::symbol::half(q) / 2);
     let end = from + n;
@@ -150,8 +130,8 @@ fn add_sum(low: &[u8], top: &[u8], v: &mut [u8])
     ensures { v.new ≡ writes v.old (length v.old)
         (λ j. plus (entry v.old j) (plus (entry low.now j) (entry top.now j))) }
 {
-    let mut j = 0;
-    while j < v.len() {
+    for i in 0..v.len() / 16 {
+        let j = 16 * i;
         let a = lanes::take(low, j);
         let b = lanes::take(top, j);
         let sum = lanes::plus(&a, &b);
@@ -159,7 +139,6 @@ fn add_sum(low: &[u8], top: &[u8], v: &mut [u8])
         let new = lanes::plus(&old, &sum);
         let end = j + 16;
         rows::copy(16, &new, &mut v[j..end]);
-        j = end;
     }
 }
 
@@ -197,13 +176,10 @@ fn clear_all(
     ensures { AllCleared (field_of q) n i (entry factors.now 1) (λ j. entry low.now (n + j)) vectors.old
         vectors.new count }
 {
-    let mut k = 0;
-    let mut at = 0;
-    while k < count {
+    for k in 0..count {
+        let at = n * k;
         let end = at + n;
         clear(q, i, factors, low, top, &mut vectors[at..end]);
-        at = end;
-        k += 1;
     }
 }
 
@@ -282,18 +258,15 @@ pub fn eliminate(
 {
     let n = high.len();
     let mut rank = 0;
-    let mut t = 0;
-    let mut at = 0;
-    while t < count {
+    for t in 0..count {
         let left = count - t - 1;
+        let at = n * t;
         rank += step(q, left, high, low, top, &mut vectors[at..], grid);
-        at += n;
-        t += 1;
     }
     rank
 }
 
-// The same of short blocks, whose vectors have 64 symbols: one function for all callers, so that the loops are compiled for that number.
+// The same of short blocks, whose vectors have 64 symbols (kept: for speed): one function for all callers, so that the loops are compiled for that number.
 pub fn eliminate_short(
     q: u8,
     count: usize,

@@ -8,9 +8,9 @@ use Prim.Native.Nat.{ℕ, ◌≤◌, ◌<◌}
 use native.Mathlib.Decide.{dec_lt}
 use native.Mathlib.Omega.{arith}
 use lib.ListN.{length, replicate}
-use Rattle.field.specs.declared.outcome.Outcome.{Outcome}
-use Rattle.field.specs.declared.outcome.Outcome.TheVariants.{Done, BadValue}
-use Rattle.field.specs.Outcomes.{number}
+use Rattle.std.specs.Prelude.{Err}
+use Rattle.field.specs.declared.outcome.Refusal.TheVariants.{BadValue}
+use Rattle.field.specs.Outcomes.{Outcome, Done, number}
 use Rattle.code.specs.Answers.{Answer}
 use Rattle.code.specs.Checks.{bad_value, first_bad, slice_checks}
 use Rattle.code.specs.Recovered.{Reading, nothing, message, several, answer_of, recover_checks}
@@ -43,8 +43,8 @@ module _ (block : List ℕ) (long : length block ≡ 64) where
       elim (dec_lt bad 64) [
         | yes h ↦
             let found = value_bad true 16 block bad refl (omega arith) in
-            let refused = checked (BadValue bad) (sym (slices_value true 16 64 block 32 32 Done long (BadValue bad) found refl)) in
-            inl (h, ap (λ (a : Answer). number a.outcome) (recovered_refused 4 1 37 block (replicate 32 0) (BadValue bad) refused refl))
+            let refused = checked (Err (BadValue bad)) (sym (slices_value true 16 64 block 32 32 Done long (Err (BadValue bad)) found refl)) in
+            inl (h, ap (λ (a : Answer). number a.outcome) (recovered_refused 4 1 37 block (replicate 32 0) (Err (BadValue bad)) refused refl))
         | no h ↦
             let none = value_good true 16 block bad refl (omega arith) in
             let passed = checked Done (sym (slices_passed true 16 64 block 32 32 Done long Done none refl refl)) in

@@ -1,5 +1,6 @@
 pub mod Texts
 pub mod Decimals
+pub mod Chunks
 pub mod Lines
 pub mod Pages
 pub mod LastLines

@@ -1,13 +1,15 @@
 -- The three kinds of lines, and lines one after another.
 -- Assumes nothing.
-use mathlib.Core.Path.{◌≡◌, sym, ap, ◌∙◌}
+use mathlib.Core.Path.{◌≡◌, ap}
 use mathlib.Core.List.{List}
 use Prim.Native.Nat.{ℕ, ◌+◌, ◌*◌, ◌/◌, ◌≤◌, ◌<◌}
 use native.Mathlib.Omega.{arith}
-use borrow.Author.Tests.{lt-ltb, le-ltb, eq-eqb, ne_eqb}
+use borrow.Author.Tests.{lt-ltb, le-ltb}
 use lib.ListN.{length, replicate}
-use Rattle.field.specs.declared.outcome.Outcome.{Outcome}
-use Rattle.field.specs.Outcomes.{number, second}
+use Rattle.std.specs.Prelude.{Err}
+use Rattle.field.specs.declared.outcome.Refusal.{Refusal}
+use Rattle.field.specs.Outcomes.{Outcome, Done, refusal_number, refusal_second}
+use Rattle.field.proofs.Outcomes.{counted}
 use Rattle.code.specs.Answers.{answered}
 use Rattle.code.specs.Recovered.{recovered}
 use Rattle.lines.specs.Line.{ok_line, no_line, short_line, answer_line, line_of, numbered_line, lines_of}
@@ -19,13 +21,13 @@ line_short n bytes h = rw (lt-ltb (length bytes) 64 h)
 
 module _ (n : ℕ) (bytes : List ℕ) (whole : 64 ≤ length bytes)
     (o : Outcome) (slice : List ℕ) (says : recovered 4 1 37 bytes (replicate 32 0) ≡ answered o slice) where
-  pub line_ok : (r : ℕ) → r ≡ number o → r ≡ 0 → line_of n bytes ≡ ok_line n slice
+  pub line_ok : o ≡ Done → line_of n bytes ≡ ok_line n slice
   unfolding line_of answer_line
-  line_ok r e z = rw (le-ltb (length bytes) 64 whole, says, eq-eqb (number o) 0 (sym e ∙ z))
+  line_ok e = rw (le-ltb (length bytes) 64 whole, says, e)
 
-  pub line_no : (r s : ℕ) → r ≡ number o → s ≡ second o → (r ≡ 0 → ⊥) → line_of n bytes ≡ no_line n r s
+  pub line_no : (r : Refusal) → o ≡ Err r → line_of n bytes ≡ no_line n (refusal_number r) (refusal_second r)
   unfolding line_of answer_line
-  line_no r s e g z = rw (le-ltb (length bytes) 64 whole, says, e, g, ne_eqb (number o) 0 (λ p. z (e ∙ p)))
+  line_no r e = rw (le-ltb (length bytes) 64 whole, says, e, counted r)
 
 -- no record is left
 pub lines_end :

@@ -1,15 +1,19 @@
 -- What a page is put together from: a value's character, a point, the last line and its spaces, and one page after another.
 -- Assumes nothing.
 use mathlib.Core.Bool.{true}
-use mathlib.Core.Path.{◌≡◌, sym, ap, ◌∙◌}
+use mathlib.Core.Path.{◌≡◌, refl, sym, ap, ◌∙◌}
 use mathlib.Core.List.{List, [], ◌∷◌, ◌++◌}
-use Prim.Native.Nat.{ℕ, ◌+◌, ◌-◌, ◌*◌, ◌/◌, ◌≤◌, ◌<◌}
+use Prim.Native.Nat.{ℕ, ◌+◌, ◌-◌, ◌*◌, ◌≤◌, ◌<◌}
 use native.Mathlib.Omega.{arith}
 use borrow.Author.Tests.{eq-eqb, ne_eqb}
-use lib.ListN.{length, get_or, replicate, take, drop, length-drop}
+use lib.ListN.{length, get_or, replicate, take}
 use lib.Seq.{length-take-le}
-use Rattle.field.specs.declared.outcome.Outcome.{Outcome}
-use Rattle.field.specs.Outcomes.{number, second}
+use Rattle.std.specs.Prelude.{Err}
+use Rattle.field.specs.declared.outcome.Refusal.{Refusal}
+use Rattle.field.specs.declared.outcome.Refusal.TheVariants.{BadCurve, BadOrder, BadLength, BadValue, BadRoom, BadPlace}
+use Rattle.field.specs.declared.outcome.Refusal.TheVariants.{BadSymbol, NoMessage, Several, NoneNear, NoRadius, InverseOfZero, BadWork}
+use Rattle.field.specs.declared.outcome.Refusal.TheVariants.{BadPlaces, NoInformationSet, BadSeries, BadColumns, LowOrder}
+use Rattle.field.specs.Outcomes.{Outcome, Done, number, second}
 use Rattle.poly.proofs.Fronts.{take_replicate}
 use Rattle.points.specs.Inner.Columns.{Ys}
 use Rattle.points.proofs.YsTables.{table_at}
@@ -44,25 +48,46 @@ pub point_at :
 unfolding point_text
 point_at block ys x s y symbol t l b e g = rw (e, g, table_at 4 ys t x s l b)
 
--- what the last line says
-module _ (refusal r : ℕ) where
-  pub result_ok : refusal ≡ 0 → result_text refusal r ≡ 111 ∷ 107 ∷ []
+-- what the last line says of an outcome
+abbrev pub said : Outcome → List ℕ
+said o = result_text (number o) (second o)
+
+bad_said : (r : Refusal) → (r ≡ NoMessage → ⊥) → ((n : ℕ) → r ≡ Several n → ⊥) → said (Err r) ≡ 98 ∷ 97 ∷ 100 ∷ []
+unfolding result_text
+bad_said BadCurve a b = refl
+bad_said BadOrder a b = refl
+bad_said BadLength a b = refl
+bad_said (BadValue i) a b = refl
+bad_said BadRoom a b = refl
+bad_said BadPlace a b = refl
+bad_said BadSymbol a b = refl
+bad_said NoMessage a b = absurd (a refl)
+bad_said (Several n) a b = absurd (b n refl)
+bad_said NoneNear a b = refl
+bad_said NoRadius a b = refl
+bad_said InverseOfZero a b = refl
+bad_said BadWork a b = refl
+bad_said BadPlaces a b = refl
+bad_said NoInformationSet a b = refl
+bad_said BadSeries a b = refl
+bad_said BadColumns a b = refl
+bad_said LowOrder a b = refl
+
+pub done_says : (o : Outcome) → o ≡ Done → said o ≡ 111 ∷ 107 ∷ []
+unfolding result_text
+done_says o e = rw e
+
+module _ (o : Outcome) (r : Refusal) (refused : o ≡ Err r) where
+  pub none_says : r ≡ NoMessage → said o ≡ 110 ∷ 111 ∷ 110 ∷ 101 ∷ []
   unfolding result_text
-  result_ok e = rw (eq-eqb refusal 0 e)
+  none_says e = rw (refused, e)
 
-  module _ (refused : refusal ≡ 0 → ⊥) where
-    pub result_none : refusal ≡ 9 → result_text refusal r ≡ 110 ∷ 111 ∷ 110 ∷ 101 ∷ []
-    unfolding result_text
-    result_none e = rw (ne_eqb refusal 0 refused, eq-eqb refusal 9 e)
+  pub several_says : (n : ℕ) → r ≡ Several n → said o ≡ several_text n
+  unfolding result_text
+  several_says n e = rw (refused, e)
 
-    module _ (some : refusal ≡ 9 → ⊥) where
-      pub result_several : refusal ≡ 10 → result_text refusal r ≡ several_text r
-      unfolding result_text
-      result_several e = rw (ne_eqb refusal 0 refused, ne_eqb refusal 9 some, eq-eqb refusal 10 e)
-
-      pub result_bad : (refusal ≡ 10 → ⊥) → result_text refusal r ≡ 98 ∷ 97 ∷ 100 ∷ []
-      unfolding result_text
-      result_bad d = rw (ne_eqb refusal 0 refused, ne_eqb refusal 9 some, ne_eqb refusal 10 d)
+  pub bad_says : (r ≡ NoMessage → ⊥) → ((n : ℕ) → r ≡ Several n → ⊥) → said o ≡ 98 ∷ 97 ∷ 100 ∷ []
+  bad_says a b = rw refused (bad_said r a b)
 
 -- the spaces after a text that ends at `end`
 abbrev spaces : ℕ → ℕ → List ℕ
@@ -89,19 +114,7 @@ last_line_whole {at = at} {end = end} refusal r v h s n =
 pub page_whole :
     (block : List ℕ) (o : Outcome) (slice : List ℕ) →
     recovered 4 1 37 block (replicate 32 0) ≡ answered o slice →
-    (r s : ℕ) → r ≡ number o → s ≡ second o →
-    joined (column_line block) 16 ++ last_line r s ≡ page_of block
+    joined (column_line block) 16 ++ last_line (number o) (second o) ≡ page_of block
 unfolding page_of
-page_whole block o slice says r s e g =
-    rw (e, g) (ap (λ (u : Outcome). joined (column_line block) 16 ++ last_line (number u) (second u)) (sym (ap (λ (a : Answer). a.outcome) says)))
-
--- the part of a file that record k is
-module _ (bytes : List ℕ) (k : ℕ) where
-  abbrev record_part : List ℕ
-  record_part = take (64 * k + 64 - 64 * k) (drop (64 * k) bytes)
-
-  pub record_part_lem : record_part ≡ take 64 (drop (64 * k) bytes)
-  record_part_lem = let e : 64 * k + 64 - 64 * k ≡ 64 = omega arith in ap (λ (n : ℕ). take n (drop (64 * k) bytes)) e
-
-  pub length_record : k < length bytes / 64 → length record_part ≡ 64
-  length_record h = rw record_part_lem (length-take-le 64 (drop (64 * k) bytes) (omega (arith, length-drop (64 * k) bytes)))
+page_whole block o slice says =
+    ap (λ (u : Outcome). joined (column_line block) 16 ++ last_line (number u) (second u)) (sym (ap (λ (a : Answer). a.outcome) says))

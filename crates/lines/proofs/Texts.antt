@@ -1,14 +1,17 @@
 -- Hexadecimal digits; text written over a part of a list: one more character, and one text after another.
 -- Assumes nothing.
 use mathlib.Core.Path.{◌≡◌, refl, sym, ap, ◌∙◌}
-use mathlib.Core.List.{List, [], ◌∷◌, ◌++◌, map, map-append}
-use Prim.Native.Nat.{ℕ, suc, ◌+◌, ◌%◌, ◌≤◌, ◌<◌}
+use mathlib.Core.List.{List, [], ◌∷◌, ◌++◌, map, map-append, append_assoc}
+use Prim.Native.Nat.{ℕ, suc, ◌+◌, ◌-◌, ◌%◌, ◌≤◌, ◌<◌}
 use native.Mathlib.Nat.{add-zero, add-suc, suc-add}
 use native.Mathlib.Numerals.{add-one}
 use native.Mathlib.Omega.{arith}
 use borrow.Author.Tests.{lt-ltb, le-ltb}
 use lib.ListN.{length, get_or, take, set, length-append, length-map}
-use lib.Seq.{sets, take-suc, length-take-le}
+use lib.Seq.{sets, sets-eq, take-suc, length-take-le}
+use borrow.Rule.Slice.PartMut.{put_mid}
+use Rattle.std.proofs.lemmas.List.Edits.{paste_all}
+use Rattle.std.proofs.lemmas.Slice.{put_mid-paste}
 use Rattle.lines.specs.Text.{hex_digit, joined, Written}
 
 -- a hexadecimal digit
@@ -49,16 +52,20 @@ joined_none text l at = record { ends = sym (add-zero at); holds = refl }
 pub one_more : (l d s : List ℕ) (at end v : ℕ) → d ≡ sets l at s → end ≡ at + length s → set d end v ≡ sets l at (s ++ (v ∷ []))
 one_more l d s at end v e h = rw (e, h) (sym (sets_append l at s (v ∷ [])))
 
--- a loop that writes a text: what a turn does
-pub text_turn :
-    (l text : List ℕ) (at : ℕ) (d : List ℕ) (j end : ℕ) →
-    d ≡ sets l at (take j text) →
-    end ≡ at + j →
-    j < length text →
-    set d end (get_or text j 0) ≡ sets l at (take (j + 1) text)
-text_turn l text at d j end e h k =
-    rw (add-one j, take-suc text j 0 k)
-    (one_more l d (take j text) at end (get_or text j 0) e (omega (arith, length-take-le j text (omega arith))))
+-- a text copied over the part of a list that begins at `at`
+pub part_written :
+    (l text : List ℕ) (at end : ℕ) (new : List ℕ) →
+    end ≡ at + length text →
+    at + length text ≤ length l →
+    new ≡ text →
+    Written l at text end (put_mid at (end - at) l new)
+part_written l text at end new e fits is = record {
+  ends = e;
+  holds =
+      put_mid-paste at (end - at) l new text (length text) is (omega arith) refl
+      ∙ paste_all l at text (length text) refl
+      ∙ rw (sets-eq text l at fits, append_assoc);
+}
 
 -- a loop that writes the values of f at the entries of a list, from `at` on: what a turn does
 module _ (f : ℕ → ℕ) (l values : List ℕ) (at : ℕ) where

@@ -1,7 +1,6 @@
 -- The page of a record (request T-07): 17 lines of 18 characters and a line feed.
 use Rattle.std.specs.Prelude.{true, cond, List, [], ◌∷◌, ◌++◌, ℕ, ◌+◌, ◌-◌, ◌*◌, ◌/◌, eqb, length, get_or, replicate, take, drop}
-use Rattle.field.specs.Outcomes.{number, second}
-use Rattle.field.specs.declared.outcome.Outcome.{Outcome}
+use Rattle.field.specs.Outcomes.{Outcome, number, second}
 use Rattle.points.specs.Points.{ys_of}
 use Rattle.code.specs.Checks.{bad_value}
 use Rattle.code.specs.Recovered.{recovered}

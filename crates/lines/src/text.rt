@@ -1,4 +1,6 @@
 // Text in ASCII, written into a slice from a place on. Each function answers the place after its text.
+// kept: `Written`, which the contracts cite, is of a place in a lent slice, and the library has no heap for a `String` or a `Vec`; so digits
+// are written by hand too.
 ghost use Rattle.std.specs.Prelude.{◌≡◌, ◌++◌, map, ◌+◌, ◌≤◌, length};
 ghost use Rattle.lines.specs.Text.{hex_digit, Written, decimal as decimal_text};
 
@@ -6,13 +8,8 @@ pub fn bytes(text: &[u8], at: usize, out: &mut [u8]) -> usize
     requires { at + length text.now ≤ length out.old }
     ensures { Written out.old at text.now result out.new }
 {
-    let mut j = 0;
-    let mut end = at;
-    while j < text.len() {
-        out[end] = text[j];
-        end += 1;
-        j += 1;
-    }
+    let end = at + text.len();
+    out[at..end].copy_from_slice(text);
     end
 }
 
@@ -21,7 +18,7 @@ pub fn hex_digit(value: u8) -> u8
     ensures { result ≡ hex_digit value }
 {
     let d = value % 16;
-    if d < 10 { 48 + d } else { 87 + d }
+    if d < 10 { b'0' + d } else { b'a' - 10 + d }
 }
 
 // One hexadecimal digit for each value.
@@ -29,12 +26,10 @@ pub fn digits(values: &[u8], at: usize, out: &mut [u8]) -> usize
     requires { at + length values.now ≤ length out.old }
     ensures { Written out.old at (map hex_digit values.now) result out.new }
 {
-    let mut j = 0;
     let mut end = at;
-    while j < values.len() {
-        out[end] = hex_digit(values[j]);
+    for value in values {
+        out[end] = hex_digit(*value);
         end += 1;
-        j += 1;
     }
     end
 }
@@ -44,11 +39,11 @@ pub fn decimal(n: usize, at: usize, out: &mut [u8]) -> usize
     ensures { Written out.old at (decimal_text n) result out.new }
 {
     if n < 10 {
-        out[at] = 48 + n as u8;
+        out[at] = b'0' + n as u8;
         return at + 1;
     }
     let end = decimal(n / 10, at, out);
-    out[end] = 48 + (n % 10) as u8;
+    out[end] = b'0' + (n % 10) as u8;
     end + 1
 }
 

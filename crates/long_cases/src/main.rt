@@ -4,17 +4,11 @@
 
 ghost use Rattle.std.specs.Prelude.{◌≤◌};
 
-use case_lines::{number, print_answer, print_values};
-use field::Outcome;
-use reading::read_full;
+use case_lines::long_record::{input, order, series, slice_length};
+use case_lines::{print_answer, print_values};
+use field::{Outcome, Refusal};
+use reading::read_record;
 use std::io;
-
-// The length of a slice in a record, which has room for 560 bytes.
-fn room(length: usize) -> usize
-    ensures { (result ≤ length) × (result ≤ 560) }
-{
-    if length < 560 { length } else { 560 }
-}
 
 fn run_on_slices(op: u8, q: u8, series: u8, m: u16, input: &[u8], output: &mut [u8]) -> Outcome {
     match op {
@@ -51,32 +45,19 @@ fn work_length(kind: u8) -> usize
     }
 }
 
-// Whether every byte is the one that the work slice was filled with.
-fn is_filled(work: &[u8], byte: u8) -> bool {
-    let mut j = 0;
-    let n = work.len();
-    while j < n {
-        if work[j] != byte {
-            return false;
-        }
-        j += 1;
-    }
-    true
-}
-
 // Whether the content of the work slice is left open: after a success and after refusals 9 and 10.
 fn leaves_work_open(outcome: Outcome) -> bool {
-    match field::outcome::number(outcome) {
-        0 | 9 | 10 => true,
-        _ => false,
-    }
+    matches!(
+        outcome,
+        Ok(()) | Err(Refusal::NoMessage | Refusal::Several(_))
+    )
 }
 
 // What became of the work slice, and the end of the line.
 fn print_work(rt: &impl Print, outcome: Outcome, work: &[u8], byte: u8) -> io::Result<()> {
     if leaves_work_open(outcome) {
         rt.write_all(b"open\n")
-    } else if is_filled(work, byte) {
+    } else if work.iter().all(|value| *value == byte) {
         rt.write_all(b"kept\n")
     } else {
         rt.write_all(b"changed\n")
@@ -98,41 +79,16 @@ fn long_answer(
     print_work(rt, outcome, work, byte)
 }
 
-// The order of a record.
-fn order(record: [u8; 1136]) -> u16 {
-    number(record[2], record[3])
-}
-
-// The series of a record: its byte with the lowest bit flipped, so that 0 is series 1.
-fn series(record: [u8; 1136]) -> u8 {
-    record[10] ^ 1
-}
-
-// Where the input of a record ends.
-fn input_end(record: [u8; 1136]) -> usize
-    ensures { (16 ≤ result) × (result ≤ 576) }
-{
-    16 + room(number(record[4], record[5]) as usize)
-}
-
-// Where the output slice of a record ends.
-fn output_end(record: [u8; 1136]) -> usize
-    ensures { (576 ≤ result) × (result ≤ 1136) }
-{
-    576 + room(number(record[6], record[7]) as usize)
-}
-
 fn slice_case(rt: &impl Print, record: [u8; 1136]) -> io::Result<()> {
     let mut lent = record;
-    let word_end = input_end(record);
-    let message_end = output_end(record);
+    let message_end = 576 + slice_length(record[6], record[7]);
     slice_answer(
         rt,
         record[0],
         record[1],
-        series(record),
-        order(record),
-        &record[16..word_end],
+        series(&record),
+        order(&record),
+        input(&record),
         &mut lent[576..message_end],
     )
 }
@@ -141,16 +97,15 @@ fn long_case(rt: &impl Print, record: [u8; 1136]) -> io::Result<()> {
     let byte = record[9];
     let mut lent = record;
     let mut work = [byte; 262145];
-    let word_end = input_end(record);
-    let message_end = output_end(record);
+    let message_end = 576 + slice_length(record[6], record[7]);
     let work_end = work_length(record[8]);
     long_answer(
         rt,
-        series(record),
-        order(record),
-        &record[16..word_end],
+        series(&record),
+        order(&record),
+        input(&record),
         &mut lent[576..message_end],
-        &mut work[0..work_end],
+        &mut work[..work_end],
         byte,
     )
 }
@@ -166,11 +121,9 @@ fn run_case(rt: &impl Print, record: [u8; 1136]) -> io::Result<()> {
 fn main(rt: HostRuntime) -> io::Result<()> {
     let mut from = rt.stdin();
     for _ in 0..u64::MAX {
-        let mut record = [0u8; 1136];
-        let n = read_full(&mut from, &mut record)?;
-        if n < 1136 {
+        let Some(record) = read_record(&mut from)? else {
             break;
-        }
+        };
         run_case(&rt, record)?;
     }
     Ok(())

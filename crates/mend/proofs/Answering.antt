@@ -7,9 +7,9 @@ use Prim.Native.Nat.{ℕ, ◌*◌, ◌≤◌, ◌<◌}
 use native.Mathlib.Omega.{arith}
 use lib.Dec.{eqb}
 use lib.ListN.{length}
-use Rattle.field.specs.Outcomes.{number}
-use Rattle.field.specs.declared.outcome.Outcome.{Outcome}
-use Rattle.field.specs.declared.outcome.Outcome.TheVariants.{Done, NoneNear}
+use Rattle.std.specs.Prelude.{Err}
+use Rattle.field.specs.Outcomes.{Outcome, Done, number}
+use Rattle.field.specs.declared.outcome.Refusal.TheVariants.{NoneNear}
 use Rattle.field.proofs.Curves.{short_curve, short_sizes}
 use Rattle.field.proofs.Outcomes.{not_done}
 use Rattle.points.specs.Series.{columns_of}
@@ -60,7 +60,7 @@ module _ (q series m : ℕ) (word message codeword marks : List ℕ)
       distance = counted ∙ ap (differing word) w_is
 
       -- too many: none is near
-      pub answered_far : t < count → mended q series m word message codeword marks ≡ answered NoneNear 0 message codeword marks
+      pub answered_far : t < count → mended q series m word message codeword marks ≡ answered (Err NoneNear) 0 message codeword marks
       answered_far l =
           mended_none q series m word message codeword marks e
           (λ u h.

@@ -7,9 +7,7 @@ use Prim.Native.Nat.{ℕ, ◌*◌, ◌<◌}
 use native.Mathlib.Omega.{arith}
 use lib.Dec.{eqb}
 use lib.ListN.{length, get_or}
-use Rattle.field.specs.Outcomes.{number}
-use Rattle.field.specs.declared.outcome.Outcome.{Outcome}
-use Rattle.field.specs.declared.outcome.Outcome.TheVariants.{Done}
+use Rattle.field.specs.Outcomes.{Outcome, Done, number}
 use Rattle.field.proofs.Outcomes.{done_or_not}
 use Rattle.field.proofs.Curves.{short_curve}
 use Rattle.poly.specs.Messages.{Vector}

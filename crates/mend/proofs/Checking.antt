@@ -7,10 +7,10 @@ use Prim.Native.Nat.{ℕ, ◌-◌, ◌*◌, ◌≤◌, ◌<◌}
 use borrow.Author.Tests.{lt-ltb, le-ltb, eq-eqb, ne_eqb}
 use lib.Dec.{eqb}
 use Rattle.field.specs.Curve.{is_short, IsShort, curve_of}
-use Rattle.field.specs.Outcomes.{refuse}
+use Rattle.std.specs.Prelude.{Err}
+use Rattle.field.specs.Outcomes.{Outcome, Done, refuse}
 use Rattle.field.specs.declared.curve.Curve.{Curve}
-use Rattle.field.specs.declared.outcome.Outcome.{Outcome}
-use Rattle.field.specs.declared.outcome.Outcome.TheVariants.{Done, BadRoom, NoRadius}
+use Rattle.field.specs.declared.outcome.Refusal.TheVariants.{BadRoom, NoRadius}
 use Rattle.field.proofs.Curves.{short_true}
 use Rattle.field.proofs.Outcomes.{row_refused, row_passed}
 use Rattle.points.specs.Series.{is_series}
@@ -35,7 +35,7 @@ module _ (q series m : ℕ) (word : List ℕ) (message codeword marks : ℕ) whe
   refused_order o e r = order_refused (is_short q) q series m o e r _
 
   module _ (curve : IsShort q) (named : is_series series ≡ true) (order : m < q * q * q) where
-    pub refused_radius : q * q * q - m - 1 < genus q → NoRadius ≡ mend_checks q series m word message codeword marks
+    pub refused_radius : q * q * q - m - 1 < genus q → Err NoRadius ≡ mend_checks q series m word message codeword marks
     unfolding mend_checks
     refused_radius l = sym (order_passed (is_short q) q series m _ (short_true q curve) named order ∙ rw (lt-ltb (q * q * q - m - 1) (genus q) l))
 
@@ -62,10 +62,10 @@ module _ (q series m : ℕ) (word : List ℕ) (message codeword marks : ℕ) whe
         past_slices : mend_checks q series m word message codeword marks ≡ rooms
         past_slices = past_radius ∙ row_passed row (slices_follow false (q * q) (q * q * q) word (size q m) message) o e rooms d
 
-        pub refused_codeword : (codeword ≡ q * q * q → ⊥) → BadRoom ≡ mend_checks q series m word message codeword marks
+        pub refused_codeword : (codeword ≡ q * q * q → ⊥) → Err BadRoom ≡ mend_checks q series m word message codeword marks
         refused_codeword n = sym (past_slices ∙ rw (ne_eqb codeword (q * q * q) n))
 
-        pub refused_marks : codeword ≡ q * q * q → (marks ≡ q * q * q → ⊥) → BadRoom ≡ mend_checks q series m word message codeword marks
+        pub refused_marks : codeword ≡ q * q * q → (marks ≡ q * q * q → ⊥) → Err BadRoom ≡ mend_checks q series m word message codeword marks
         refused_marks c n = sym (past_slices ∙ rw (eq-eqb codeword (q * q * q) c, ne_eqb marks (q * q * q) n))
 
         pub none_refused : codeword ≡ q * q * q → marks ≡ q * q * q → Done ≡ mend_checks q series m word message codeword marks

@@ -13,8 +13,9 @@ use borrow.Author.Tests.{eq-eqb, ne_eqb}
 use lib.Dec.{eqb}
 use lib.ListN.{length, get_or, replicate, length-replicate, get_or-replicate}
 use lib.Seq.{ext_get_or}
-use Rattle.field.specs.Outcomes.{number}
-use Rattle.field.specs.declared.outcome.Outcome.TheVariants.{Done, NoneNear}
+use Rattle.std.specs.Prelude.{Err}
+use Rattle.field.specs.Outcomes.{Done, number}
+use Rattle.field.specs.declared.outcome.Refusal.TheVariants.{NoneNear}
 use Rattle.field.proofs.Outcomes.{done_or_refused, done_or_not}
 use Rattle.field.proofs.Curves.{short_curve}
 use Rattle.poly.specs.Lists.{one_if, count, below}
@@ -107,7 +108,7 @@ module _ (q series m : ℕ) (word message codeword marks : List ℕ) where
       go : (l : List (List ℕ)) → nearest q series m word ≡ l → Mends q series m word answer
       go [] is =
           let none = mended_none q series m word message codeword marks e (λ v h. not-nil (subst (Mem v) is ((near_list q series m word).whole v h))) in
-          let z : NoneNear ≡ Done = sym (ap (λ (a : Mending). a.outcome) none) ∙ o in absurd (omega (arith, ap number z))
+          let z : Err NoneNear ≡ Done = sym (ap (λ (a : Mending). a.outcome) none) ∙ o in absurd (omega (arith, ap number z))
       go (v ∷ rest) is =
           let h : Near q series m word v = (near_list q series m word).sound v (rw is (head refl)) in
           subst (Mends q series m word) (sym (mended_near q series m word message codeword marks e v h))

@@ -10,8 +10,9 @@ use Rattle.field.specs.Plus.{plus}
 use Rattle.field.specs.Product.{times_z, combine, times}
 use Rattle.field.specs.Power.{power}
 use Rattle.field.specs.Sum.{sum}
+use Rattle.std.specs.Prelude.{Err}
 use Rattle.field.specs.Outcomes.{number, second}
-use Rattle.field.specs.declared.outcome.Outcome.TheVariants.{NoneNear}
+use Rattle.field.specs.declared.outcome.Refusal.TheVariants.{NoneNear}
 use Rattle.poly.specs.Lists.{count, filter, below}
 use Rattle.poly.specs.Messages.{all}
 use Rattle.points.specs.Passing.{passing}
@@ -79,14 +80,14 @@ unfolding near differing filter all below count flat_map word_of value_at points
 near_none = refl
 
 abbrev from_near : List ℕ → List (List ℕ) → List ℕ
-from_near word l = numbers (the_near word (word_of 2 (columns_of 2 1) 3) (answered NoneNear 0 three eight eight) l)
+from_near word l = numbers (the_near word (word_of 2 (columns_of 2 1) 3) (answered (Err NoneNear) 0 three eight eight) l)
 
 from_near_lem : (word : List ℕ) (l : List (List ℕ)) → number (mend_checks 2 1 3 word 3 8 8) ≡ 0 → near_ones word ≡ l
     → numbers (mended 2 1 3 word three eight eight) ≡ from_near word l
 unfolding mended
 from_near_lem word l accepted e =
     let refused : Mending = answered (mend_checks 2 1 3 word 3 8 8) 0 three eight eight in
-    let found : List (List ℕ) → Mending = the_near word (word_of 2 (columns_of 2 1) 3) (answered NoneNear 0 three eight eight) in
+    let found : List (List ℕ) → Mending = the_near word (word_of 2 (columns_of 2 1) 3) (answered (Err NoneNear) 0 three eight eight) in
     ap (λ (c : ℕ). numbers (cond (eqb c 0) (found (near_ones word)) refused)) accepted ∙ ap (λ l. numbers (found l)) e
 
 values_by_checks : map (λ (r : Row). r.ours) by_checks ≡ map (λ (r : Row). r.paper) by_checks

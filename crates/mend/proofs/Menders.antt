@@ -14,9 +14,9 @@ use lib.Dec.{eqb, leb, ltb, leb→le, le→leb, T_not, not_T}
 use lib.ListN.{length, get_or}
 use lib.Seq.{ext_get_or}
 use Rattle.field.specs.Curve.{is_short}
-use Rattle.field.specs.Outcomes.{number, refuse}
-use Rattle.field.specs.declared.outcome.Outcome.{Outcome}
-use Rattle.field.specs.declared.outcome.Outcome.TheVariants.{Done, BadRoom, NoneNear, NoRadius}
+use Rattle.std.specs.Prelude.{Err}
+use Rattle.field.specs.Outcomes.{Outcome, Done, number, refuse}
+use Rattle.field.specs.declared.outcome.Refusal.TheVariants.{BadRoom, NoneNear, NoRadius}
 use Rattle.field.proofs.Outcomes.{passed, Follows, done_or_not}
 use Rattle.field.proofs.Curves.{short_curve, short_of_true}
 use Rattle.poly.specs.Lists.{below}
@@ -62,10 +62,10 @@ checks_passed q series m word message codeword marks e =
     let last = refuse (not (eqb marks n)) BadRoom Done in
     let rooms = refuse (not (eqb codeword n)) BadRoom last in
     let (taken, low, e1, named) = order_rest (is_short q) q series m _ e in
-    let (far, e2) = passed (ltb (n - m - 1) (genus q)) _ NoRadius (λ p. omega (arith, ap number p)) e1 in
+    let (far, e2) = passed (ltb (n - m - 1) (genus q)) _ NoRadius e1 in
     let (e3, e4) = follows_done _ rooms (slices_follow false (q * q) n word (size q m) message) e2 in
-    let (w, e5) = passed (not (eqb codeword n)) last BadRoom (λ p. omega (arith, ap number p)) e4 in
-    let (k, e6) = passed (not (eqb marks n)) Done BadRoom (λ p. omega (arith, ap number p)) e5 in
+    let (w, e5) = passed (not (eqb codeword n)) last BadRoom e4 in
+    let (k, e6) = passed (not (eqb marks n)) Done BadRoom e5 in
     let a = slices_done false (q * q) n word (size q m) message e3 in
     record {
       mendable = record {
@@ -127,7 +127,7 @@ module _ (q series m : ℕ) (word : List ℕ) where
     unfolding mended
     mended_refused e = rw e
 
-    past : checked ≡ Done → mended q series m word message codeword marks ≡ the_near word word_from (answered NoneNear 0 message codeword marks) nearest
+    past : checked ≡ Done → mended q series m word message codeword marks ≡ the_near word word_from (answered (Err NoneNear) 0 message codeword marks) nearest
     unfolding mended
     past e = rw e
 
@@ -137,17 +137,17 @@ module _ (q series m : ℕ) (word : List ℕ) where
       unfolding the_near
       mended_near v h =
           past e
-          ∙ ap (the_near word word_from (answered NoneNear 0 message codeword marks)) (near_one (checks_passed q series m word _ _ _ e).mendable v h)
+          ∙ ap (the_near word word_from (answered (Err NoneNear) 0 message codeword marks)) (near_one (checks_passed q series m word _ _ _ e).mendable v h)
 
       pub mended_none : ((v : List ℕ) → Near q series m word v → ⊥)
-          → mended q series m word message codeword marks ≡ answered NoneNear 0 message codeword marks
+          → mended q series m word message codeword marks ≡ answered (Err NoneNear) 0 message codeword marks
       unfolding the_near
-      mended_none none = past e ∙ ap (the_near word word_from (answered NoneNear 0 message codeword marks)) (near_nothing none)
+      mended_none none = past e ∙ ap (the_near word word_from (answered (Err NoneNear) 0 message codeword marks)) (near_nothing none)
 
       -- "It refuses exactly when no codeword lies within t."
-      pub refuses_exactly : ((mended q series m word message codeword marks).outcome ≡ NoneNear) ↔ ((v : List ℕ) → Near q series m word v → ⊥)
+      pub refuses_exactly : ((mended q series m word message codeword marks).outcome ≡ Err NoneNear) ↔ ((v : List ℕ) → Near q series m word v → ⊥)
       refuses_exactly = (
-        λ o v h. let z : Done ≡ NoneNear = sym (ap (λ (a : Mending). a.outcome) (mended_near v h)) ∙ o in omega (arith, ap number z),
+        λ o v h. let z : Done ≡ Err NoneNear = sym (ap (λ (a : Mending). a.outcome) (mended_near v h)) ∙ o in omega (arith, ap number z),
         λ none. ap (λ (a : Mending). a.outcome) (mended_none none),
       )
 

@@ -1,9 +1,9 @@
 -- The mender (T-03), for every argument: "given a whole word, it finds the codeword that differs in at most t places".
-use Rattle.std.specs.Prelude.{Bool, false, not, cond, List, [], ◌∷◌, map, ℕ, ◌-◌, ◌/◌, eqb, leb, ltb, length, get_or}
+use Rattle.std.specs.Prelude.{Result, Ok, Err, Bool, false, not, cond, List, [], ◌∷◌, map, ℕ, ◌-◌, ◌/◌, eqb, leb, ltb, length, get_or}
 use Rattle.field.specs.Curve.{is_short, curve_of}
-use Rattle.field.specs.Outcomes.{number, refuse}
-use Rattle.field.specs.declared.outcome.Outcome.{Outcome}
-use Rattle.field.specs.declared.outcome.Outcome.TheVariants.{Done, BadRoom, NoneNear, NoRadius}
+use Rattle.field.specs.Outcomes.{Outcome, Done, number, refuse}
+use Rattle.field.specs.declared.outcome.Refusal.{Refusal}
+use Rattle.field.specs.declared.outcome.Refusal.TheVariants.{BadRoom, NoneNear, NoRadius}
 use Rattle.poly.specs.Lists.{one_if, count, below, filter}
 use Rattle.poly.specs.Messages.{all}
 use Rattle.points.specs.Passing.{up_to}
@@ -43,6 +43,11 @@ pub record Mending : Type 0 where
 abbrev pub answered : Outcome → ℕ → List ℕ → List ℕ → List ℕ → Mending
 answered o count message codeword marks = record { outcome = o; count = count; message = message; codeword = codeword; marks = marks }
 
+-- an answer as the call hands it back: the count of changes, or a refusal, with which the count is 0
+abbrev pub told : Result ℕ Refusal → List ℕ → List ℕ → List ℕ → Mending
+told (Ok count) message codeword marks = answered Done count message codeword marks
+told (Err refusal) message codeword marks = answered (Err refusal) 0 message codeword marks
+
 -- "It writes the message, the mended word, and n marks .. and returns the count of changes"
 abbrev pub written : List ℕ → (List ℕ → List ℕ) → List ℕ → Mending
 written word word_from v = answered Done (differing word (word_from v)) v (word_from v) (marks_of word (word_from v))
@@ -70,5 +75,5 @@ mended q series m word message codeword marks =
     let refused : Outcome → Mending = λ o. answered o 0 message codeword marks in
     let word_from = word_of q (columns_of q series) m in
     cond (eqb (number checked) 0)
-    (the_near word word_from (refused NoneNear) (near (curve_of q).symbols (size q m) word_from (radius q m) word))
+    (the_near word word_from (refused (Err NoneNear)) (near (curve_of q).symbols (size q m) word_from (radius q m) word))
     (refused checked)

@@ -8,7 +8,7 @@ ghost use Rattle.mend.specs.Inner.Candidates.{OnlyNear};
 
 use crate::locator;
 use code::{encoding, term, unencoding};
-use field::{Curve, Outcome};
+use field::Curve;
 
 // The word's symbols, and 255 wherever located is 0, in the place of located.
 fn erase(word: &[u8], located: &mut [u8])
@@ -16,10 +16,8 @@ fn erase(word: &[u8], located: &mut [u8])
     ensures { located.new
         ≡ writes located.old (length word.now) (erased_at word.now located.old) }
 {
-    let mut p = 0;
-    while p < word.len() {
+    for p in 0..word.len() {
         located[p] = if located[p] == 0 { 255 } else { word[p] };
-        p += 1;
     }
 }
 
@@ -41,11 +39,7 @@ fn read_rest(
     encoding::write_word(q, series, s as usize, locator, &mut located[..n]);
     erase(word, &mut located[..n]);
     let mut grid = recovery::known_short_grid(q, series, &located[..n]);
-    let r = recovery::recover_over(q, series, m as usize, &located[..n], &mut grid, message);
-    let Outcome::Done = r else {
-        return false;
-    };
-    true
+    recovery::recover_over(q, series, m as usize, &located[..n], &mut grid, message).is_ok()
 }
 
 // A codeword's own message, and else what is read where a locator isn't 0.
@@ -53,8 +47,7 @@ pub fn find(q: u8, series: u8, m: u16, t: usize, word: &[u8], message: &mut [u8]
     requires { Mendable q series m word.now × (t ≡ radius q m) × (length message.old ≡ size q m) }
     ensures { OnlyNear q series m word.now message.new result }
 {
-    let r = unencoding::read_word(q, series, m as usize, word, message);
-    if let Outcome::Done = r {
+    if unencoding::read_word(q, series, m as usize, word, message).is_ok() {
         return true;
     }
     let curve = Curve::at(q);

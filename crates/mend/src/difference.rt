@@ -8,12 +8,10 @@ pub fn count(a: &[u8], b: &[u8]) -> usize
     ensures { result ≡ differing a.now b.now }
 {
     let mut n = 0;
-    let mut p = 0;
-    while p < a.len() {
+    for p in 0..a.len() {
         if a[p] != b[p] {
             n += 1;
         }
-        p += 1;
     }
     n
 }
@@ -23,9 +21,7 @@ pub fn mark(a: &[u8], b: &[u8], marks: &mut [u8])
     requires { (length b.now ≡ length a.now) × (length marks.old ≡ length a.now) }
     ensures { marks.new ≡ marks_of a.now b.now }
 {
-    let mut p = 0;
-    while p < a.len() {
+    for p in 0..a.len() {
         marks[p] = if a[p] == b[p] { 0 } else { 1 };
-        p += 1;
     }
 }

@@ -3,25 +3,18 @@
 
 ghost use Rattle.std.specs.Prelude.{true, ◌≡◌, ◌+◌, ◌*◌, ◌≤◌, length};
 ghost use Rattle.field.specs.Curve.{IsShort, curve_of};
-ghost use Rattle.field.specs.declared.outcome.Outcome.TheVariants.{Done};
-ghost use Rattle.mend.specs.Mended.{radius, answered, mend_checks, mended};
+ghost use Rattle.field.specs.Outcomes.{Done};
+ghost use Rattle.mend.specs.Mended.{radius, told, mend_checks, mended};
 ghost use Rattle.mend.specs.Inner.Candidates.{OnlyNear};
 
 use code::{check, encoding, term};
-use field::{Curve, Outcome};
+use field::{Curve, Outcome, Refusal};
 use poly::rows;
 
 pub mod candidate;
 pub mod difference;
 pub mod locator;
 pub mod product;
-
-// The outcome, and how many symbols were changed.
-#[derive(Clone, Copy)]
-pub struct Reply {
-    pub outcome: Outcome,
-    pub count: u8,
-}
 
 // 1, 17, 2, 12, 3, 4 and 5.
 fn check_call(
@@ -35,26 +28,20 @@ fn check_call(
 ) -> Outcome
     ensures { result ≡ mend_checks q series m word.now message codeword marks }
 {
-    let first = check::order(field::curve::is_short(q), q, series, m);
-    let Outcome::Done = first else {
-        return first;
-    };
+    check::order(field::curve::is_short(q), q, series, m)?;
     let curve = Curve::at(q);
     if curve.points - m - 1 < curve.genus {
-        return Outcome::NoRadius;
+        return Err(Refusal::NoRadius);
     }
     let k = term::size(q, m);
-    let slices = check::slices(false, curve.symbols, curve.points, word, k, message);
-    let Outcome::Done = slices else {
-        return slices;
-    };
+    check::slices(false, curve.symbols, curve.points, word, k, message)?;
     if codeword != curve.points {
-        return Outcome::BadRoom;
+        return Err(Refusal::BadRoom);
     }
     if marks != curve.points {
-        return Outcome::BadRoom;
+        return Err(Refusal::BadRoom);
     }
-    Outcome::Done
+    Ok(())
 }
 
 // t
@@ -77,29 +64,23 @@ fn write_near(
     message: &mut [u8],
     codeword: &mut [u8],
     marks: &mut [u8],
-) -> Reply
+) -> Result<u8, Refusal>
     requires marks_value { mend_checks q series m word.now (length message.old) (length codeword.old) (length marks.old) ≡ Done }
     requires t_value { (t ≡ radius q m) × OnlyNear q series m word.now candidate.now true }
     ensures { mended q series m word.now message.old codeword.old marks.old
-        ≡ answered result.outcome result.count message.new codeword.new marks.new }
+        ≡ told result message.new codeword.new marks.new }
 {
     let n = word.len();
     let mut near = [0u8; 64];
     encoding::write_word(q, series, m as usize, candidate, &mut near[..n]);
     let count = difference::count(word, &near[..n]);
     if t < count {
-        return Reply {
-            outcome: Outcome::NoneNear,
-            count: 0,
-        };
+        return Err(Refusal::NoneNear);
     }
     rows::copy(candidate.len(), candidate, message);
     rows::copy(n, &near, codeword);
     difference::mark(word, &near[..n], marks);
-    Reply {
-        outcome: Outcome::Done,
-        count: count as u8,
-    }
+    Ok(count as u8)
 }
 
 // Mends a word that is past the checks.
@@ -111,10 +92,10 @@ fn mend_word(
     message: &mut [u8],
     codeword: &mut [u8],
     marks: &mut [u8],
-) -> Reply
+) -> Result<u8, Refusal>
     requires { mend_checks q series m word.now (length message.old) (length codeword.old) (length marks.old) ≡ Done }
     ensures { mended q series m word.now message.old codeword.old marks.old
-        ≡ answered result.outcome result.count message.new codeword.new marks.new }
+        ≡ told result message.new codeword.new marks.new }
 {
     let t = radius(q, m as usize);
     let k = message.len();
@@ -122,13 +103,10 @@ fn mend_word(
     if candidate::find(q, series, m, t, word, &mut only[..k]) {
         return write_near(q, series, m, t, word, &only[..k], message, codeword, marks);
     }
-    Reply {
-        outcome: Outcome::NoneNear,
-        count: 0,
-    }
+    Err(Refusal::NoneNear)
 }
 
-// The message of the codeword near a word, that codeword, and marks where it differs from the word.
+// The message of the codeword near a word, that codeword, and marks where it differs from the word. Answers how many symbols were changed.
 pub fn mend(
     q: u8,
     series: u8,
@@ -137,11 +115,11 @@ pub fn mend(
     message: &mut [u8],
     codeword: &mut [u8],
     marks: &mut [u8],
-) -> Reply
+) -> Result<u8, Refusal>
     ensures { mended q series m word.now message.old codeword.old marks.old
-        ≡ answered result.outcome result.count message.new codeword.new marks.new }
+        ≡ told result message.new codeword.new marks.new }
 {
-    let checked = check_call(
+    check_call(
         q,
         series,
         m as usize,
@@ -149,12 +127,6 @@ pub fn mend(
         message.len(),
         codeword.len(),
         marks.len(),
-    );
-    let Outcome::Done = checked else {
-        return Reply {
-            outcome: checked,
-            count: 0,
-        };
-    };
+    )?;
     mend_word(q, series, m, word, message, codeword, marks)
 }

@@ -21,12 +21,10 @@ fn write_starts(q: u8, s: usize, count: usize, starts: &mut [u16])
     ensures { Starts q s count starts.new }
 {
     let k = term::size(q, s);
-    let mut n = 0;
-    while n < k {
+    for n in 0..k {
         let e = term::entry(q, n);
         let d = term::divide(q, e);
         starts[n] = (64 * count * d.rest + 64 * d.whole) as u16;
-        n += 1;
     }
 }
 
@@ -56,13 +54,11 @@ fn bring_entries(q: u8, m: usize, s: usize, n: usize, starts: &[u16], grids: &[u
     ensures { HoldsHeavy q m s 32 (grid_from n starts.now grids.now) work.new n }
 {
     let curve = Curve::at(q);
-    let mut e = 0;
-    while e < n {
+    for e in 0..n {
         let d = term::divide(q, e);
         if m + s < curve.weight_x * d.whole + curve.weight_y * d.rest {
             bring_entry(q, starts, grids, e, work);
         }
-        e += 1;
     }
 }
 

@@ -71,11 +71,9 @@ fn times_y(q: u8, n: usize, grid: &[u8]) -> [u8; 64]
     ensures { result ≡ writes (replicate 64 0) n (λ e. times_y_at q grid.now (e / q) (e % q)) }
 {
     let mut r = [0u8; 64];
-    let mut e = 0;
-    while e < n {
+    for e in 0..n {
         let d = term::divide(q, e);
         r[e] = times_y_at(q, grid, d.whole, d.rest);
-        e += 1;
     }
     r
 }
@@ -87,14 +85,12 @@ fn write_multiples(q: u8, n: usize, count: usize, first: &[u8], out: &mut [u8])
 {
     let mut grid = [0u8; 64];
     rows::copy(64, first, &mut grid);
-    let mut i = 0;
     let mut at = 0;
-    while i < count {
+    for i in 0..count {
         let end = at + 64;
         rows::copy(64, &grid, &mut out[at..end]);
         grid = times_x(q, n, &grid);
         at = end;
-        i += 1;
     }
 }
 
@@ -108,13 +104,11 @@ pub fn write_products(q: u8, series: u8, count: usize, word: &[u8], grids: &mut 
     let width = q as usize;
     let part = 64 * count;
     let mut grid = unencoding::interpolate_short(q, series, word);
-    let mut j = 0;
     let mut at = 0;
-    while j < width {
+    for j in 0..width {
         let end = at + part;
         write_multiples(q, n, count, &grid, &mut grids[at..end]);
         grid = times_y(q, n, &grid);
         at = end;
-        j += 1;
     }
 }

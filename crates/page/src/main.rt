@@ -20,9 +20,10 @@ fn print_pages(rt: &impl Print, from: &mut impl Read) -> io::Result<bool> {
 
 fn main(rt: HostRuntime) -> io::Result<()> {
     let mut from = rt.stdin();
-    let mut turn = 0;
-    while turn < MOST && print_pages(&rt, &mut from)? {
-        turn += 1;
+    for _ in 0..MOST {
+        if !print_pages(&rt, &mut from)? {
+            break;
+        }
     }
     Ok(())
 }

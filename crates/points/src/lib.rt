@@ -1,13 +1,12 @@
 // The points of the curves, column by column.
 #![tactic(auto)]
 
-ghost use Rattle.std.specs.Prelude.{◌≡◌, ◌*◌, length, take};
+ghost use Rattle.std.specs.Prelude.{◌≡◌, ℕ, ◌+◌, ◌*◌, ◌≤◌, length, take};
 ghost use Rattle.field.specs.Curve.{IsShort};
 ghost use Rattle.field.proofs.Fields.{field_of};
 ghost use Rattle.poly.specs.Inner.Interpolation.{VanishingTree};
-ghost use Rattle.points.specs.Passing.{up_to};
 ghost use Rattle.points.specs.PointTable.{PointTable};
-ghost use Rattle.points.specs.Series.{is_series, columns_by_powers, columns_of};
+ghost use Rattle.points.specs.Series.{is_series, columns_of};
 ghost use Rattle.points.specs.Inner.Columns.{Ys, PaddedYs};
 
 use poly::rows;
@@ -224,17 +223,7 @@ const LONG_COLUMNS_BY_POWERS: [u8; 64] = *b"\
     \x25\x09\x12\x24\x0b\x16\x2c\x1b\x36\x2f\x1d\x3a\x37\x2d\x19\x32\
     \x27\x0d\x1a\x34\x2b\x15\x2a\x17\x2e\x1f\x3e\x3f\x3d\x39\x31\x21";
 
-fn ys_2() -> [u8; 64]
-    ensures { Ys 2 result }
-{
-    YS_2
-}
-
-fn ys_4() -> [u8; 64]
-    ensures { Ys 4 result }
-{
-    YS_4
-}
+// kept: each table has a function for short blocks and one for the long curve, since the larger array is not to stand in a short block's frame.
 
 // The table of the long curve's 512 points: y of the point number p, whose x is p / 8.
 pub fn long_ys() -> [u8; 512]
@@ -249,10 +238,14 @@ pub fn ys(q: u8) -> [u8; 64]
     requires { IsShort q }
     ensures { Ys q result }
 {
-    if q == 2 { ys_2() } else { ys_4() }
+    if q == 2 {
+        return YS_2;
+    }
+    YS_4
 }
 
 // The same, and zeros after them: sixteen can be taken from each column's y on.
+// kept: a function over both lengths would copy by a number that isn't known when it is compiled, and each unencoding would take longer.
 pub fn padded_ys(q: u8) -> [u8; 80]
     requires { IsShort q }
     ensures { PaddedYs q result }
@@ -279,44 +272,16 @@ pub fn is_series(series: u8) -> bool
     series == 1 || series == 2
 }
 
-// All columns of the larger curve of short blocks, ascending; the smaller one's are the first of them.
-fn ascending_columns() -> [u8; 16]
-    ensures { result ≡ up_to 16 }
-{
-    COLUMNS
-}
-
-// The larger curve's by powers.
-fn columns_by_powers() -> [u8; 16]
-    ensures { result ≡ columns_by_powers 4 }
-{
-    COLUMNS_BY_POWERS
-}
-
-// All columns of a curve of short blocks in the order of the series: the first ones.
+// All columns of a curve of short blocks in the order of the series: the first ones. The smaller curve's order is the same in both series.
 pub fn columns(q: u8, series: u8) -> [u8; 16]
     requires { IsShort q }
     ensures { (take (q * q) result ≡ columns_of q series) × (length result ≡ 16) }
 {
-    if q == 2 {
-        ascending_columns()
-    } else if series == 2 {
-        columns_by_powers()
+    if q == 4 && series == 2 {
+        COLUMNS_BY_POWERS
     } else {
-        ascending_columns()
+        COLUMNS
     }
-}
-
-fn long_columns_ascending() -> [u8; 64]
-    ensures { result ≡ up_to 64 }
-{
-    LONG_COLUMNS
-}
-
-fn long_columns_by_powers() -> [u8; 64]
-    ensures { result ≡ columns_by_powers 8 }
-{
-    LONG_COLUMNS_BY_POWERS
 }
 
 // All columns of the long curve in the order of the series.
@@ -324,50 +289,32 @@ pub fn long_columns(series: u8) -> [u8; 64]
     ensures { result ≡ columns_of 8 series }
 {
     if series == 2 {
-        long_columns_by_powers()
-    } else {
-        long_columns_ascending()
+        return LONG_COLUMNS_BY_POWERS;
     }
+    LONG_COLUMNS
 }
 
-// The trees of vanishing polynomials of all columns: the ascending ones, and those by powers. The smaller curve's are the same in both series.
-pub fn tree_2() -> [u8; 160]
-    ensures { VanishingTree (field_of 2) (up_to 4) result × (length result ≡ 160) }
+// The tree of vanishing polynomials of all columns of a curve of short blocks, in the order of the series. It is assigned, since one picked by
+// an expression has room twice on the stack.
+pub fn tree(q: u8, series: u8) -> [u8; 160]
+    requires { IsShort q }
+    ensures { VanishingTree (field_of q) (columns_of q series) result × (length result ≡ 160) }
 {
-    TREE_2
-}
-
-pub fn tree_4() -> [u8; 160]
-    ensures { VanishingTree (field_of 4) (up_to 16) result × (length result ≡ 160) }
-{
+    if q == 2 {
+        return TREE_2;
+    }
+    if series == 2 {
+        return TREE_4_BY_POWERS;
+    }
     TREE_4
 }
 
-pub fn tree_4_by_powers() -> [u8; 160]
-    ensures { VanishingTree (field_of 4) (columns_by_powers 4) result × (length result ≡ 160) }
-{
-    TREE_4_BY_POWERS
-}
-
-fn tree_8() -> [u8; 848]
-    ensures { VanishingTree (field_of 8) (up_to 64) result }
-{
-    TREE_8
-}
-
-fn tree_8_by_powers() -> [u8; 848]
-    ensures { VanishingTree (field_of 8) (columns_by_powers 8) result }
-{
-    TREE_8_BY_POWERS
-}
-
-// That of the long curve, in the order of the series.
+// That of the long curve.
 pub fn long_tree(series: u8) -> [u8; 848]
     ensures { VanishingTree (field_of 8) (columns_of 8 series) result }
 {
     if series == 2 {
-        tree_8_by_powers()
-    } else {
-        tree_8()
+        return TREE_8_BY_POWERS;
     }
+    TREE_8
 }

@@ -1,10 +1,9 @@
 -- The turns of the loops that add up products of two halves: sixteen numbers at once, and row by row.
 -- Assumes nothing.
 use mathlib.Core.List.{List}
-use mathlib.Core.Logic.{◌⊎◌, inl, inr}
 use mathlib.Core.Path.{◌≡◌, sym, ap, ap₂, ◌∙◌}
 use Prim.Native.Nat.{ℕ, ◌+◌, ◌-◌, ◌*◌, ◌≤◌, ◌<◌}
-use native.Mathlib.Nat.{mul-zero, mul-one, mul-suc, mul-le-mul_left}
+use native.Mathlib.Nat.{mul-suc, mul-le-mul_left}
 use native.Mathlib.Numerals.{add-one}
 use native.Mathlib.Decide.{dec_lt}
 use native.Mathlib.Omega.{arith}
@@ -60,11 +59,12 @@ module _ (F : Field) (w : ℕ) (f g left right : List ℕ) where
     unfolding crossed
     crossed_none = is_lanes _ (zeros 16) (length-replicate {A = ℕ} 16 0) (λ t k. get_or_zeros 16 t ∙ sym (sum_none _))
 
-    pub crossed_turn : (i from : ℕ) (s s₁ s₂ : List ℕ) → from + w * i ≡ at → s ≡ lanes (λ t. crossed F w i f g left right (at + t))
-        → s₁ ≡ added_to F s left from (get_or g i 0) → s₂ ≡ added_to F s₁ right from (get_or f i 0)
+    pub crossed_turn : (i : ℕ) (s s₁ s₂ : List ℕ) → w * i ≤ at → s ≡ lanes (λ t. crossed F w i f g left right (at + t))
+        → s₁ ≡ added_to F s left (at - w * i) (get_or g i 0) → s₂ ≡ added_to F s₁ right (at - w * i) (get_or f i 0)
         → s₂ ≡ lanes (λ t. crossed F w (i + 1) f g left right (at + t))
     unfolding crossed
-    crossed_turn i from s s₁ s₂ is_from e e₁ e₂ =
+    crossed_turn i s s₁ s₂ fits e e₁ e₂ =
+        let from : ℕ = at - w * i in
         e₂ ∙ lanes_cong _ _ (λ t k.
         let p : from + t ≡ at + t - w * i = omega arith in
         let L = F.times (get_or left (from + t) 0) (get_or g i 0) in
@@ -76,12 +76,9 @@ module _ (F : Field) (w : ℕ) (f g left right : List ℕ) where
         ∙ ap (plus (sum i h)) (ap (λ (q : ℕ). plus (F.times (get_or left q 0) (get_or g i 0)) (F.times (get_or right q 0) (get_or f i 0))) p)
         ∙ sym (ap (λ (n : ℕ). sum n h) (add-one i) ∙ sum_suc i h))
 
--- the place of a turn, and the next one
-pub turn_place : (w n i from at : ℕ) → i < n → from + w * i ≡ at → w * n ≤ at → (w ≤ from) × (from - w + w * (i + 1) ≡ at)
-turn_place w n i from at l e h =
-    let s : w * (i + 1) ≡ w * i + w = ap (λ (k : ℕ). w * k) (add-one i) ∙ mul-suc w i in
-    let k : w * i + w ≤ w * n = omega (arith, mul-suc w i, mul-le-mul_left w l) in
-    (omega arith, omega arith)
+-- the place of a turn
+pub turn_place : (w n i at : ℕ) → i < n → w * n ≤ at + w → w * i ≤ at
+turn_place w n i at l h = omega (arith, mul-suc w i, mul-le-mul_left w l)
 
 -- ---- row by row
 
@@ -113,7 +110,10 @@ module _ (F : Field) (w n : ℕ) (f src work₀ : List ℕ) where
       (λ p. ap (λ (l : List ℕ). get_or l p 0) same
       ∙ sym (ap (plus (get_or work p 0)) (ap (F.times (moved_on w n src i p)) z ∙ times_zero F (moved_on w n src i p)) ∙ plus_zero (get_or work p 0)))
 
-  module _ (i at : ℕ) (work : List ℕ) (is_at : at ≡ w * i) (fits : at + n ≤ length work) where
+  module _ (i : ℕ) (work : List ℕ) (fits : w * i + n ≤ length work) where
+    abbrev at : ℕ
+    at = w * i
+
     -- where nothing of src has been moved to
     outside : (p : ℕ) → moved_on w n src i p ≡ 0 → get_or work p 0 ≡ plus (get_or work p 0) (product i p)
     outside p z = sym (ap (plus (get_or work p 0)) (ap (λ (v : ℕ). F.times v (get_or f i 0)) z ∙ zero_times F (get_or f i 0)) ∙ plus_zero (get_or work p 0))
@@ -149,16 +149,6 @@ module _ (F : Field) (w n : ℕ) (f src work₀ : List ℕ) where
             (sym (moved_from w n src i p (omega arith) ∙ ap (λ (x : ℕ). get_or (take n src) x 0) k ∙ get_or-take n src (p - at) 0 (omega arith))))
         go p (no l) (no m) = put_high work at (at + n) ys (omega arith) fits long p (omega arith) ∙ outside p (moved_past w n src i p (omega arith))
 
--- the place of a row, and of the next one
-pub row_room : (w n k i at long : ℕ) → w * k + n ≤ long + w → i < k → at ≡ w * i
-    → (at + n ≤ long) × (at + w ≡ w * (i + 1)) × ((at ≡ 0) ⊎ (at + w ≤ long + long))
-row_room w n k i at long h l e =
-    let s : w * (i + 1) ≡ w * i + w = ap (λ (k : ℕ). w * k) (add-one i) ∙ mul-suc w i in
-    let m : w * i + w ≤ w * k = omega (arith, mul-suc w i, mul-le-mul_left w l) in (
-      omega arith,
-      omega arith,
-      elim (dec_lt 0 i) [
-        | yes p ↦ inr (let o : w * 1 ≤ w * i = mul-le-mul_left w p in omega (arith, mul-one w))
-        | no p ↦ inl (let z : i ≡ 0 = omega arith in e ∙ ap (λ (k : ℕ). w * k) z ∙ mul-zero w)
-      ],
-    )
+-- the place of a row
+pub row_room : (w n k i long : ℕ) → w * k + n ≤ long + w → i < k → w * i + n ≤ long
+row_room w n k i long h l = omega (arith, mul-suc w i, mul-le-mul_left w l)

@@ -22,11 +22,11 @@ use Rattle.poly.specs.Inner.Polynomials.{value, derivative, vanishing, others, T
 use Rattle.poly.specs.Inner.Interpolation.{interleaved, divided, Joinable, Joined, SlopesAt, RowsDivided, Divided, Interpolated}
 use Rattle.poly.proofs.Entries.{zeros, below_zeros}
 use Rattle.poly.proofs.Writes.{length_writes, writes_in, writes_out, writes_cong}
-use Rattle.poly.proofs.Parts.{length_part, part_at, put_is, length_put, put_low, put_in, put_high, below_put}
+use Rattle.poly.proofs.Parts.{length_part, part_at, put_is, put_low, put_in, put_high, below_put}
 use Rattle.poly.proofs.Values.{value_cong, value_extend}
 use Rattle.poly.proofs.Derivatives.{derivative_value}
 use Rattle.poly.proofs.Vanishings.{derivative_at}
-use Rattle.poly.proofs.Multiples.{scaled_at, length_scaled_at, below_scaled_at, scaled_at_low, scaled_at_in, scaled_at_high, stored_in, below_stored}
+use Rattle.poly.proofs.Multiples.{scaled_at, below_scaled_at, scaled_at_low, scaled_at_in, scaled_at_high, stored_in, below_stored}
 use Rattle.poly.proofs.LaneLaws.{lanes_at}
 use Rattle.poly.proofs.Interleaving.{place_lt, place_add}
 use Rattle.poly.proofs.LagrangeSums.{lagrange_sum_cong, lagrange_at}
@@ -114,9 +114,12 @@ module _ (F : Field) where
     pub rows_none : (from : ℕ) (rows : List ℕ) → Below F.size rows → RowsDivided F columns from 0 rows rows
     rows_none from rows b = record { below = b; done = λ j t jw h. absurd (omega arith); rest = λ p h. refl }
 
-    module _ (from count t at : ℕ) (rows₀ rows : List ℕ) (given : length rows₀ ≡ 16 * count) (h : t < count) (e : at ≡ 16 * t)
+    module _ (from count t : ℕ) (rows₀ rows : List ℕ) (given : length rows₀ ≡ 16 * count) (h : t < count)
         (long : length rows ≡ length rows₀) where
-      pub divide_room : at + 16 ≤ length rows
+      abbrev at : ℕ
+      at = 16 * t
+
+      pub divide_room : 16 * t + 16 ≤ length rows
       divide_room = omega (arith, given, mul-suc 16 t, mul-le-mul_left 16 h)
 
       module _ (u : ℕ) (ys : List ℕ) (d : RowsDivided F columns from t rows₀ rows) (eu : u ≡ divisor (from + t))
@@ -124,33 +127,25 @@ module _ (F : Field) where
         abbrev new : List ℕ
         new = scaled_at F u (16 * t) 16 rows
 
-        room : 16 * t + 16 ≤ length rows
-        room = omega (arith, divide_room)
-
         back : put_mid at (at + 16 - at) rows ys ≡ new
-        back = put_is rows at (at + 16) ys (omega arith) ∙ ap (put rows at (at + 16)) ey ∙ ap (λ (a : ℕ). scaled_at F u a 16 rows) e
+        back = put_is rows at (at + 16) ys (omega arith) ∙ ap (put rows at (at + 16)) ey
 
         here : (j : ℕ) → j < 16 → interleaved 16 new j t ≡ F.times (divisor (from + t)) (interleaved 16 rows₀ j t)
-        here j jw = scaled_at_in F u (16 * t) 16 rows room j jw ∙ ap₂ F.times eu (d.rest (16 * t + j) (omega arith))
+        here j jw = scaled_at_in F u (16 * t) 16 rows divide_room j jw ∙ ap₂ F.times eu (d.rest (16 * t + j) (omega arith))
 
         earlier : (j i : ℕ) → j < 16 → i < t → interleaved 16 new j i ≡ F.times (divisor (from + i)) (interleaved 16 rows₀ j i)
-        earlier j i jw b = scaled_at_low F u (16 * t) 16 rows room (16 * i + j) (place_lt 16 i j t jw b) ∙ d.done j i jw b
+        earlier j i jw b = scaled_at_low F u (16 * t) 16 rows divide_room (16 * i + j) (place_lt 16 i j t jw b) ∙ d.done j i jw b
 
         turned : RowsDivided F columns from (t + 1) rows₀ new
         turned = record {
-          below = below_scaled_at F u (16 * t) 16 rows room d.below;
+          below = below_scaled_at F u (16 * t) 16 rows divide_room d.below;
           done = λ j i jw b. elim (ℕ_discrete i t) [ yes q ↦ rw q (here j jw) | no q ↦ earlier j i jw (omega arith) ];
           rest = λ p b. let past : 16 * t + 16 ≤ p = omega (arith, mul-suc 16 t, ap (λ (n : ℕ). 16 * n) (add-one t)) in
-              scaled_at_high F u (16 * t) 16 rows room p past ∙ d.rest p (omega arith);
+              scaled_at_high F u (16 * t) 16 rows divide_room p past ∙ d.rest p (omega arith);
         }
 
-        pub divide_turn : (at + 16 ≡ 16 * (t + 1)) × (length (put_mid at (at + 16 - at) rows ys) ≡ length rows₀)
-            × RowsDivided F columns from (t + 1) rows₀ (put_mid at (at + 16 - at) rows ys)
-        divide_turn = (
-          omega (arith, mul-suc 16 t, ap (λ (n : ℕ). 16 * n) (add-one t)),
-          ap length back ∙ length_scaled_at F u (16 * t) 16 rows room ∙ long,
-          rw back turned,
-        )
+        pub divide_turn : RowsDivided F columns from (t + 1) rows₀ (put_mid (16 * t) (16 * t + 16 - 16 * t) rows ys)
+        divide_turn = rw back turned
 
     pub rows_all : (from count t : ℕ) (rows₀ rows : List ℕ) → t ≤ count → count ≤ t → RowsDivided F columns from t rows₀ rows
         → RowsDivided F columns from count rows₀ rows
@@ -207,11 +202,8 @@ module _ (F : Field) where
           rest = λ p b. put_high rows (16 * from) (16 * to) ys group_order group_room size p b ∙ d.rest p (omega (arith, group_order));
         }
 
-        pub group_turn : (length (put_mid (16 * from) (16 * to - 16 * from) rows ys) ≡ length rows₀)
-            × RowsDivided F columns 0 to rows₀ (put_mid (16 * from) (16 * to - 16 * from) rows ys)
-        group_turn =
-            let is = put_is rows (16 * from) (16 * to) ys group_order in
-            (ap length is ∙ length_put rows (16 * from) (16 * to) ys group_order group_room size ∙ long, rw is grouped)
+        pub group_turn : RowsDivided F columns 0 to rows₀ (put_mid (16 * from) (16 * to - 16 * from) rows ys)
+        group_turn = rw (put_is rows (16 * from) (16 * to) ys group_order) grouped
 
     pub groups_all : (from : ℕ) (rows₀ rows : List ℕ) → from ≤ length columns → length columns ≤ from → RowsDivided F columns 0 from rows₀ rows
         → Divided F columns rows₀ rows

@@ -98,12 +98,12 @@ module _ (F : Field) where
       ]
 
   pub vanishing_more : (columns s : List ℕ) (t : ℕ) → 0 < t → t ≤ length columns → length columns < length s → Vanishing F (drop t columns) s
-      → Vanishing F (drop (t - 1) columns) (writes s (length columns - t + 2) (linear F (get_or columns (t - 1) 0) (entry s)))
+      → Vanishing F (drop (t - 1) columns) (writes s (length columns - (t - 1) + 1) (linear F (get_or columns (t - 1) 0) (entry s)))
   vanishing_more columns s t h k few v =
       let next : t ≡ suc (t - 1) = omega arith in
-      subst (λ (l : List ℕ). Vanishing F l (writes s (length columns - t + 2) (linear F (get_or columns (t - 1) 0) (entry s))))
+      subst (λ (l : List ℕ). Vanishing F l (writes s (length columns - (t - 1) + 1) (linear F (get_or columns (t - 1) 0) (entry s))))
       (sym (drop-cons columns (t - 1) 0 (omega arith) ∙ ap (λ (n : ℕ). get_or columns (t - 1) 0 ∷ drop n columns) (sym next)))
-      (vanishing_cons (get_or columns (t - 1) 0) (length columns - t + 2) (drop t columns) s (omega (arith, length-drop t columns)) (omega arith) v)
+      (vanishing_cons (get_or columns (t - 1) 0) (length columns - (t - 1) + 1) (drop t columns) s (omega (arith, length-drop t columns)) (omega arith) v)
 
   pub vanishing_below : (columns out : List ℕ) → Vanishing F columns out → Below F.size out
   vanishing_below columns out v i = rw (v.is i) (vanishing_lt columns i)

@@ -1,15 +1,16 @@
 -- A loop that writes a range anew: the length, what stands where it wrote and where it did not, and what a turn does.
 -- Assumes nothing.
 use mathlib.Core.Path.{◌≡◌, refl, sym, ap, ap₂, ◌∙◌}
-use mathlib.Core.List.{List, map}
+use mathlib.Core.List.{List, map, ◌++◌}
 use mathlib.Core.Logic.{⊎_elim}
 use Prim.Native.Nat.{ℕ, zero, suc, ◌+◌, ◌≤◌, ◌<◌}
 use native.Mathlib.Nat.{le_antisymm, eq-or-lt_of_le, not-suc-le-zero, le_of_suc-le-suc}
 use native.Mathlib.Numerals.{add-one}
 use native.Mathlib.Decide.{dec_lt}
 use native.Mathlib.Omega.{arith}
-use lib.ListN.{length, get_or, set, length-set, length-map}
+use lib.ListN.{length, get_or, set, length-set, length-map, get_or-append}
 use lib.Seq.{ext_get_or, get_or-set_same, get_or-set_other}
+use Rattle.std.proofs.lemmas.List.{set-append_left}
 use Rattle.poly.specs.Inner.Ranges.{Below, writes}
 use Rattle.poly.proofs.Lists.{get_or_map}
 
@@ -47,6 +48,14 @@ module _ (l : List ℕ) (f : ℕ → ℕ) where
 
   pub writes_end : (d : List ℕ) (j n : ℕ) → d ≡ writes l j f → j ≤ n → n ≤ j → d ≡ writes l n f
   writes_end d j n e a b = e ∙ ap (λ (x : ℕ). writes l x f) (le_antisymm a b)
+
+  -- The same where the loop goes over the front of the list, and rest stands behind it.
+  pub front_kept : (front rest : List ℕ) (j : ℕ) → j < length front → front ++ rest ≡ writes l j f → get_or front j 0 ≡ get_or l j 0
+  front_kept front rest j h e = sym (get_or-append front rest 0 j h) ∙ writes_kept (front ++ rest) j e
+
+  pub front_turn : (front rest : List ℕ) (j v : ℕ) → j < length front → front ++ rest ≡ writes l j f → v ≡ f j
+      → set front j v ++ rest ≡ writes l (j + 1) f
+  front_turn front rest j v h e k = sym (set-append_left front rest j v h) ∙ writes_turn (front ++ rest) j v e k
 
   pub below_writes : (b n : ℕ) → n ≤ length l → Below b l → ((j : ℕ) → j < n → f j < b) → Below b (writes l n f)
   below_writes b n k h g j = go (dec_lt j n)

@@ -12,6 +12,7 @@ ghost use Rattle.poly.specs.Inner.Interpolation.{crossed, Crossable, Padded, Pla
 ghost use Rattle.poly.specs.Inner.Interpolation.{Tree, Joinable, Joined, SlopesAt, RowsDivided, Divided, VanishingTree, Interpolated};
 
 use crate::{lanes, polynomial, rows};
+use field::symbol::{LongBlocks, ShortBlocks};
 
 // a + c * the sixteen elements of src from at on, of short blocks. Where c is 1, as it often is, no product is worked out.
 fn add(q: u8, c: u8, src: &[u8; 96], at: usize, a: &[u8; 16]) -> [u8; 16]
@@ -41,17 +42,14 @@ fn cross(
         left.now right.now (at + t)) }
 {
     let mut sum = [0u8; 16];
-    let mut i = 0;
-    let mut from = at + w;
-    while i < f.len() {
-        from -= w;
+    for i in 0..f.len() {
+        let from = at - w * i;
         if g[i] != 0 {
             sum = add(q, g[i], left, from, &sum);
         }
         if f[i] != 0 {
             sum = add(q, f[i], right, from, &sum);
         }
-        i += 1;
     }
     sum
 }
@@ -62,13 +60,12 @@ fn place(n: usize, src: &[u8], out: &mut [u8])
     requires out_value { out.old ≡ replicate 96 0 }
     ensures { Placed n src.now out.new }
 {
-    let mut at = 0;
-    while at < n {
+    // kept: with `copy_from_slice` unencoding takes 1.04 times as long.
+    for at in (0..n).step_by(16) {
         let a = lanes::take(src, at);
         let from = 32 + at;
         let end = from + 16;
         rows::copy(16, &a, &mut out[from..end]);
-        at += 16;
     }
 }
 
@@ -89,12 +86,10 @@ fn write_crossed(
         left.now right.now (32 + p)) work.new
         × Below (field_of q).size work.new }
 {
-    let mut at = 0;
-    while at < n {
+    for at in (0..n).step_by(16) {
         let a = cross(q, w, f, g, left, right, 32 + at);
         let end = at + 16;
         rows::copy(16, &a, &mut work[at..end]);
-        at = end;
     }
 }
 
@@ -118,15 +113,12 @@ fn add_product(w: usize, n: usize, f: &[u8], src: &[u8], work: &mut [u8])
     requires below { Below (field_of 8).size f.now × Below (field_of 8).size src.now × Below (field_of 8).size work.old }
     ensures { ProductAdded (field_of 8) w n f.now src.now work.old work.new (length f.now) }
 {
-    let mut i = 0;
-    let mut at = 0;
-    while i < f.len() {
+    for i in 0..f.len() {
         if f[i] != 0 {
+            let at = w * i;
             let end = at + n;
             rows::add_scaled_long(f[i], n, src, &mut work[at..end]);
         }
-        at += w;
-        i += 1;
     }
 }
 
@@ -143,7 +135,7 @@ fn combine_by_rows(w: usize, h: usize, c: usize, f: &[u8], g: &[u8], work: &mut 
     let mut right = [0u8; 528];
     rows::copy(n, work, &mut left);
     rows::copy(rest, &work[half..], &mut right);
-    rows::clear(work);
+    work.fill(0);
     add_product(w, n, g, &left, work);
     add_product(w, rest, f, &right, work);
 }
@@ -187,7 +179,7 @@ fn divide_row(q: u8, v: u8, row: &mut [u8])
     let c = field::symbol::inverse(q, v);
     let a = lanes::take(row, 0);
     let b = lanes::scale(q, c, &a);
-    rows::copy(16, &b, row);
+    row.copy_from_slice(&b);
 }
 
 // The values of the derivative of the columns' vanishing polynomial at sixteen of the columns, or as many as are left, from number `from` on.
@@ -201,9 +193,9 @@ fn slopes(q: u8, columns: &[u8], from: usize, to: usize, vanishing: &[u8]) -> [u
     let squares = lanes::multiply(q, &places, &places);
     let n = polynomial::terms(vanishing, 1, 2, (columns.len() + 1) / 2);
     if q == 8 {
-        return polynomial::evaluate_long(vanishing, 1, 2, n, &squares);
+        return polynomial::evaluate::<LongBlocks>(q, vanishing, 1, 2, n, &squares);
     }
-    polynomial::evaluate_short(q, vanishing, 1, 2, n, &squares)
+    polynomial::evaluate::<ShortBlocks>(q, vanishing, 1, 2, n, &squares)
 }
 
 // Divides the rows of the columns number from to number to, sixteen at most, by the derivative's values there.
@@ -215,13 +207,10 @@ fn divide_rows(q: u8, columns: &[u8], from: usize, to: usize, vanishing: &[u8], 
 {
     let slopes = slopes(q, columns, from, to, vanishing);
     let count = to - from;
-    let mut t = 0;
-    let mut at = 0;
-    while t < count {
+    for t in 0..count {
+        let at = 16 * t;
         let end = at + 16;
         divide_row(q, slopes[t], &mut rows[at..end]);
-        at = end;
-        t += 1;
     }
 }
 
@@ -238,14 +227,12 @@ fn divide(q: u8, columns: &[u8], vanishing: &[u8], work: &mut [u8])
         divide_rows(q, columns, 0, c, vanishing, work);
         return;
     }
-    let mut from = 0;
-    while from < c {
-        let left = c - from;
-        let to = if left < 16 { c } else { from + 16 };
+    for i in 0..c.div_ceil(16) {
+        let from = 16 * i;
+        let to = c.min(from + 16);
         let at = 16 * from;
         let end = 16 * to;
         divide_rows(q, columns, from, to, vanishing, &mut work[at..end]);
-        from = to;
     }
 }
 

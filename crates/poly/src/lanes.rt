@@ -9,17 +9,17 @@ ghost use Rattle.poly.specs.Inner.Rows.{stored};
 ghost use Rattle.poly.specs.Inner.Lanes.{lanes};
 
 use crate::rows;
+use field::symbol::{LongBlocks, Product, ShortBlocks};
 
 // Sixteen elements from at on.
+// kept: by a loop of sixteen turns, which becomes one load.
 pub fn take(list: &[u8], at: usize) -> [u8; 16]
     requires { at + 16 ≤ length list.now }
     ensures { result ≡ lanes (λ t. get_or list.now (at + t) 0) }
 {
     let mut r = [0u8; 16];
-    let mut t = 0;
-    while t < 16 {
+    for t in 0..16 {
         r[t] = list[at + t];
-        t += 1;
     }
     r
 }
@@ -45,7 +45,8 @@ fn load_few(list: &[u8]) -> [u8; 16]
     r
 }
 
-// The elements of a list, and zeros. Four, as the strap's columns have, are loaded without a loop.
+// The elements of a list, and zeros. Four, as the strap's columns have, are loaded, and stored below, without a loop.
+// kept: a loop, or a copy by a length, takes longer for so few.
 pub fn load(list: &[u8]) -> [u8; 16]
     requires { length list.now ≤ 16 }
     ensures { result ≡ lanes (entry list.now) }
@@ -83,10 +84,8 @@ pub fn sum(a: &[u8; 16]) -> u8
     ensures { result ≡ sum 16 (entry a.now) }
 {
     let mut r = 0u8;
-    let mut t = 0;
-    while t < 16 {
+    for t in 0..16 {
         r = r ^ a[t];
-        t += 1;
     }
     r
 }
@@ -96,51 +95,35 @@ pub fn plus(a: &[u8; 16], b: &[u8; 16]) -> [u8; 16]
     ensures { result ≡ lanes (λ t. plus (entry a.now t) (entry b.now t)) }
 {
     let mut r = [0u8; 16];
-    let mut t = 0;
-    while t < 16 {
+    for t in 0..16 {
         r[t] = a[t] ^ b[t];
-        t += 1;
     }
     r
 }
 
-// a * b, lane by lane, of short blocks
-pub fn multiply_short(q: u8, a: &[u8; 16], b: &[u8; 16]) -> [u8; 16]
-    requires { Below (field_of q).size a.now × Below (field_of q).size b.now × (q ≡ 8 → ⊥) }
+// a * b, lane by lane, of one kind of block
+pub fn multiply_in<P: Product>(q: u8, a: &[u8; 16], b: &[u8; 16]) -> [u8; 16]
+    requires blocks { P.takes q }
+    requires symbols { Below (field_of q).size a.now × Below (field_of q).size b.now }
     ensures { result ≡ lanes (λ t. (field_of q).times (entry a.now t) (entry b.now t)) }
 {
     let mut r = [0u8; 16];
-    let mut t = 0;
-    while t < 16 {
-        r[t] = field::symbol::times_short(q, a[t], b[t]);
-        t += 1;
-    }
-    r
-}
-
-// a * b, lane by lane, of long blocks
-pub fn multiply_long(a: &[u8; 16], b: &[u8; 16]) -> [u8; 16]
-    requires { Below (field_of 8).size a.now × Below (field_of 8).size b.now }
-    ensures { result ≡ lanes (λ t. (field_of 8).times (entry a.now t) (entry b.now t)) }
-{
-    let mut r = [0u8; 16];
-    let mut t = 0;
-    while t < 16 {
-        r[t] = field::symbol::times_long(a[t], b[t]);
-        t += 1;
+    for t in 0..16 {
+        r[t] = P::times(q, a[t], b[t]);
     }
     r
 }
 
 // a * b, lane by lane
+#[inline]
 pub fn multiply(q: u8, a: &[u8; 16], b: &[u8; 16]) -> [u8; 16]
     requires { Below (field_of q).size a.now × Below (field_of q).size b.now }
     ensures { result ≡ lanes (λ t. (field_of q).times (entry a.now t) (entry b.now t)) }
 {
     if q == 8 {
-        return multiply_long(a, b);
+        return multiply_in::<LongBlocks>(q, a, b);
     }
-    multiply_short(q, a, b)
+    multiply_in::<ShortBlocks>(q, a, b)
 }
 
 // z * a
@@ -149,10 +132,8 @@ pub fn times_z(q: u8, a: &[u8; 16]) -> [u8; 16]
     ensures { result ≡ lanes (λ t. (field_of q).times 2 (entry a.now t)) }
 {
     let mut r = [0u8; 16];
-    let mut t = 0;
-    while t < 16 {
+    for t in 0..16 {
         r[t] = field::symbol::times_z(q, a[t]);
-        t += 1;
     }
     r
 }
@@ -173,34 +154,21 @@ pub fn add_scaled(q: u8, c: u8, a: &[u8; 16], b: &[u8; 16]) -> [u8; 16]
 {
     let factor = [c; 16];
     let mut r = [0u8; 16];
-    let mut t = 0;
-    while t < 16 {
-        r[t] = a[t] ^ field::symbol::times_short(q, b[t], factor[t]);
-        t += 1;
+    for t in 0..16 {
+        r[t] = a[t] ^ ShortBlocks::times(q, b[t], factor[t]);
     }
     r
 }
 
-// Horner's step, of short blocks: a * b, and c in every lane.
-pub fn step_short(q: u8, c: u8, a: &[u8; 16], b: &[u8; 16]) -> [u8; 16]
-    requires { Below (field_of q).size a.now × Below (field_of q).size b.now × (q ≡ 8 → ⊥) }
+// Horner's step, of one kind of block: a * b, and c in every lane.
+pub fn step<P: Product>(q: u8, c: u8, a: &[u8; 16], b: &[u8; 16]) -> [u8; 16]
+    requires blocks { P.takes q }
+    requires symbols { Below (field_of q).size a.now × Below (field_of q).size b.now }
     ensures { result ≡ lanes (λ t. plus ((field_of q).times (entry a.now t) (entry b.now t)) c) }
 {
     let mut r = [0u8; 16];
-    let mut t = 0;
-    while t < 16 {
-        r[t] = field::symbol::times_short(q, a[t], b[t]) ^ c;
-        t += 1;
+    for t in 0..16 {
+        r[t] = P::times(q, a[t], b[t]) ^ c;
     }
     r
-}
-
-// The same of long blocks.
-pub fn step_long(c: u8, a: &[u8; 16], b: &[u8; 16]) -> [u8; 16]
-    requires { Below (field_of 8).size a.now × Below (field_of 8).size b.now }
-    ensures { result ≡ lanes (λ t. plus ((field_of 8).times (entry a.now t) (entry b.now t)) c) }
-{
-    let product = multiply_long(a, b);
-    let constant = [c; 16];
-    plus(&product, &constant)
 }

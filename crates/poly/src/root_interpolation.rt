@@ -12,10 +12,9 @@ fn sum_powers(q: u8, places: &[u8; 16], values: &[u8], row: &mut [u8])
     ensures { PowersSummed (field_of q) places.now values.now row.old row.new 0 }
 {
     let mut v = lanes::load(values);
-    let mut i = values.len() - 1;
-    row[i] = lanes::sum(&v);
-    while 0 < i {
-        i -= 1;
+    let last = values.len() - 1;
+    row[last] = lanes::sum(&v);
+    for i in (0..last).rev() {
         v = lanes::multiply(q, places, &v);
         row[i] = lanes::sum(&v);
     }

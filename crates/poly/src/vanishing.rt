@@ -6,7 +6,7 @@ ghost use Rattle.poly.specs.Inner.Linear.{entry};
 ghost use Rattle.poly.specs.Inner.Polynomials.{linear, Vanishing};
 ghost use Rattle.poly.specs.Inner.Interpolation.{Node, Tree, TreeRoom, Outside, SameOutside, VanishingTree};
 
-use crate::rows;
+use field::symbol::{Product, ShortBlocks};
 
 // The first n coefficients become those of the product by x - a.
 fn times_linear(q: u8, a: u8, n: usize, out: &mut [u8])
@@ -14,12 +14,10 @@ fn times_linear(q: u8, a: u8, n: usize, out: &mut [u8])
     ensures { out.new ≡ writes out.old n (linear (field_of q) a (entry out.old)) }
 {
     let mut before = 0u8;
-    let mut i = 0;
-    while i < n {
-        let old = out[i];
-        out[i] = field::symbol::times_short(q, a, old) ^ before;
+    for x in &mut out[..n] {
+        let old = *x;
+        *x = ShortBlocks::times(q, a, old) ^ before;
         before = old;
-        i += 1;
     }
 }
 
@@ -28,12 +26,10 @@ fn write_polynomial(q: u8, columns: &[u8], out: &mut [u8])
     requires { Below (field_of q).size columns.now × (length columns.now < length out.old) × (length out.old ≤ 1024) × (q ≡ 8 → ⊥) }
     ensures { Vanishing (field_of q) columns.now out.new }
 {
-    rows::clear(out);
+    out.fill(0);
     out[0] = 1;
-    let mut t = columns.len();
-    while 0 < t {
-        let n = columns.len() - t + 2;
-        t -= 1;
+    for t in (0..columns.len()).rev() {
+        let n = columns.len() - t + 1;
         times_linear(q, columns[t], n, out);
     }
 }

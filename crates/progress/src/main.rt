@@ -4,7 +4,7 @@
 
 ghost use Rattle.std.specs.Prelude.{◌+◌, ◌≤◌, length};
 
-use field::Outcome;
+use field::{Outcome, Refusal};
 use job::{Job, Reply};
 use lines::text;
 use reading::read_full;
@@ -25,7 +25,7 @@ fn left_text(r: u16, at: usize, out: &mut [u8]) -> usize
     ensures { result ≤ at + 45 }
 {
     let a = text::bytes(b"left ", at, out);
-    text::decimal_then(r as usize, b"\n", a, out)
+    text::decimal_then(usize::from(r), b"\n", a, out)
 }
 
 fn ok_text(message: [u8; 32], at: usize, out: &mut [u8]) -> usize
@@ -37,25 +37,22 @@ fn ok_text(message: [u8; 32], at: usize, out: &mut [u8]) -> usize
     text::bytes(b"\n", b, out)
 }
 
-fn no_text(outcome: Outcome, at: usize, out: &mut [u8]) -> usize
+fn no_text(refusal: Refusal, at: usize, out: &mut [u8]) -> usize
     requires { at + 45 ≤ length out.old }
     ensures { result ≤ at + 45 }
 {
-    let refusal = field::outcome::number(outcome);
-    let second = field::outcome::second(outcome);
     let a = text::bytes(b"no ", at, out);
-    let b = text::decimal_then(refusal as usize, b" ", a, out);
-    text::decimal_then(second as usize, b"\n", b, out)
+    let b = text::decimal_then(usize::from(refusal.number()), b" ", a, out);
+    text::decimal_then(usize::from(refusal.second()), b"\n", b, out)
 }
 
 fn result_text(outcome: Outcome, message: [u8; 32], at: usize, out: &mut [u8]) -> usize
     requires { at + 45 ≤ length out.old }
     ensures { result ≤ at + 45 }
 {
-    if let Outcome::Done = outcome {
-        ok_text(message, at, out)
-    } else {
-        no_text(outcome, at, out)
+    match outcome {
+        Ok(()) => ok_text(message, at, out),
+        Err(refusal) => no_text(refusal, at, out),
     }
 }
 
@@ -67,7 +64,7 @@ fn turn_text(reply: Reply, message: [u8; 32], at: usize, out: &mut [u8]) -> usiz
     match reply {
         Reply::NoneFits => text::bytes(b"none\n", at, out),
         Reply::Leaves(r) => left_text(r, at, out),
-        Reply::Refused | Reply::Finished(_) => result_text(job::outcome(reply), message, at, out),
+        Reply::Refused | Reply::Finished(_) => result_text(Outcome::from(reply), message, at, out),
     }
 }
 
@@ -96,10 +93,7 @@ fn draw(
 }
 
 fn is_working(reply: Reply) -> bool {
-    match reply {
-        Reply::NoneFits | Reply::Leaves(_) => true,
-        Reply::Refused | Reply::Finished(_) => false,
-    }
+    matches!(reply, Reply::NoneFits | Reply::Leaves(_))
 }
 
 // The display's loop: carries a job on until it is finished, and draws after each call.
@@ -107,49 +101,36 @@ fn show(rt: &impl Print, number: usize, arrived: usize, opened: Job) -> io::Resu
     let mut job = opened;
     let mut message = [0u8; 32];
     let mut symbols = 0;
-    let mut turns = MOST_TURNS;
-    while turns > 0 {
+    for _ in 0..MOST_TURNS {
         let turn = job.carry_on(BUDGET, &mut message);
-        let reply = turn.reply;
-        symbols += turn.brought as usize;
-        draw(rt, number, symbols, arrived, reply, message)?;
-        if !is_working(reply) {
-            return Ok(());
+        symbols += usize::from(turn.brought);
+        draw(rt, number, symbols, arrived, turn.reply, message)?;
+        if !is_working(turn.reply) {
+            break;
         }
         job = turn.job;
-        turns -= 1;
     }
     Ok(())
 }
 
 // The number of symbols that a record has: 255 stands for a missing one.
 fn arrived_count(record: [u8; 64]) -> usize {
-    let mut count = 0;
-    let mut j = 0;
-    while j < 64 {
-        if record[j] != 255 {
-            count += 1;
-        }
-        j += 1;
-    }
-    count
+    record.iter().filter(|symbol| **symbol != 255).count()
 }
 
 // Prints the line of a record that no job is opened for.
-fn draw_refusal(rt: &impl Print, number: usize, outcome: Outcome) -> io::Result<()> {
+fn draw_refusal(rt: &impl Print, number: usize, refusal: Refusal) -> io::Result<()> {
     let mut line = [0u8; 108];
     let a = text::decimal_then(number, b" ", 0, &mut line);
-    let end = no_text(outcome, a, &mut line);
+    let end = no_text(refusal, a, &mut line);
     print_first(rt, end, line)
 }
 
 fn show_record(rt: &impl Print, number: usize, record: [u8; 64]) -> io::Result<()> {
     let opening = job::open(4, 1, 37, &record);
-    let outcome = opening.outcome;
-    if let Outcome::Done = outcome {
-        show(rt, number, arrived_count(record), opening.job)
-    } else {
-        draw_refusal(rt, number, outcome)
+    match opening.outcome {
+        Ok(()) => show(rt, number, arrived_count(record), opening.job),
+        Err(refusal) => draw_refusal(rt, number, refusal),
     }
 }
 
@@ -177,9 +158,10 @@ fn print_lines(rt: &impl Print, from: &mut impl Read, number: usize) -> io::Resu
 
 fn main(rt: HostRuntime) -> io::Result<()> {
     let mut from = rt.stdin();
-    let mut number = 0;
-    while number < MOST && print_lines(&rt, &mut from, number)? {
-        number += 1;
+    for number in 0..MOST {
+        if !print_lines(&rt, &mut from, number)? {
+            break;
+        }
     }
     Ok(())
 }

@@ -23,3 +23,10 @@ pub fn read_full<R: Read>(from: &mut R, buf: &mut [u8]) -> io::Result<usize>
     }
     Ok(done)
 }
+
+// Reads a record, if the input has as many bytes left.
+pub fn read_record<const LENGTH: usize, R: Read>(from: &mut R) -> io::Result<Option<[u8; LENGTH]>> {
+    let mut record = [0u8; LENGTH];
+    let n = read_full(from, &mut record)?;
+    Ok((n == LENGTH).then_some(record))
+}

@@ -107,14 +107,14 @@ module _ (q c count : ℕ) (last grid₀ : List ℕ) where
 
   -- the block before
   module _ (grid : List ℕ) (factor b : ℕ) (h : BlocksFrom q c count last grid₀ grid factor b) (pos : 0 < b) (room : 16 * count ≤ length grid₀) where
-    pub block_within : (16 * (b - 1) ≤ 16 * b) × (16 * b ≤ length grid) × (length (part grid (16 * (b - 1)) (16 * b)) ≡ 16)
+    pub block_within : (16 * (b - 1) ≤ 16 * (b - 1) + 16) × (16 * (b - 1) + 16 ≤ length grid) × (length (part grid (16 * (b - 1)) (16 * (b - 1) + 16)) ≡ 16)
     block_within =
-        let fits : 16 * b ≤ length grid = omega (arith, h.within, h.long) in
-        (omega arith, fits, length_part grid (16 * (b - 1)) (16 * b) (omega arith) fits ∙ omega arith)
+        let fits : 16 * (b - 1) + 16 ≤ length grid = omega (arith, h.within, h.long) in
+        (omega arith, fits, length_part grid (16 * (b - 1)) (16 * (b - 1) + 16) (omega arith) fits ∙ omega arith)
 
     pub blocks_turn : (block new : List ℕ) → block ≡ lanes (λ t. (field_of q).times (entry last t) factor)
-        → new ≡ stored 16 block (part grid (16 * (b - 1)) (16 * b))
-        → BlocksFrom q c count last grid₀ (put_mid (16 * (b - 1)) (16 * b - 16 * (b - 1)) grid new) ((field_of q).times c factor) (b - 1)
+        → new ≡ stored 16 block (part grid (16 * (b - 1)) (16 * (b - 1) + 16))
+        → BlocksFrom q c count last grid₀ (put_mid (16 * (b - 1)) (16 * (b - 1) + 16 - 16 * (b - 1)) grid new) ((field_of q).times c factor) (b - 1)
     blocks_turn block new is_block is_new =
         record {
           within = omega (arith, h.within);
@@ -130,7 +130,7 @@ module _ (q c count : ℕ) (last grid₀ : List ℕ) where
         from = 16 * (b - 1)
 
         to : ℕ
-        to = 16 * b
+        to = 16 * (b - 1) + 16
 
         w : (from ≤ to) × (to ≤ length grid) × (length (part grid from to) ≡ 16)
         w = block_within

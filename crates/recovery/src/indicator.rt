@@ -217,18 +217,7 @@ const X_POWERS_8: [u8; 1024] = *b"\
     \x3e\x3e\x3e\x3e\x3e\x3e\x3e\x3e\x01\x01\x01\x01\x01\x01\x01\x01\
     \x3f\x3f\x3f\x3f\x3f\x3f\x3f\x3f\x01\x01\x01\x01\x01\x01\x01\x01";
 
-fn y_factors_2() -> [u8; 256]
-    ensures { YFactors 2 result }
-{
-    Y_FACTORS_2
-}
-
-fn y_factors_4() -> [u8; 256]
-    ensures { YFactors 4 result }
-{
-    Y_FACTORS_4
-}
-
+// kept: tables of long blocks have functions of their own, as in `points`.
 pub fn long_y_factors() -> [u8; 1024]
     ensures { YFactors 8 result }
 {
@@ -239,19 +228,10 @@ pub fn y_factors(q: u8) -> [u8; 256]
     requires { IsShort q }
     ensures { YFactors q result }
 {
-    if q == 2 { y_factors_2() } else { y_factors_4() }
-}
-
-fn x_powers_2() -> [u8; 256]
-    ensures { XPowers 2 result }
-{
-    X_POWERS_2
-}
-
-fn x_powers_4() -> [u8; 256]
-    ensures { XPowers 4 result }
-{
-    X_POWERS_4
+    if q == 2 {
+        return Y_FACTORS_2;
+    }
+    Y_FACTORS_4
 }
 
 pub fn long_x_powers() -> [u8; 1024]
@@ -264,7 +244,10 @@ pub fn x_powers(q: u8) -> [u8; 256]
     requires { IsShort q }
     ensures { XPowers q result }
 {
-    if q == 2 { x_powers_2() } else { x_powers_4() }
+    if q == 2 {
+        return X_POWERS_2;
+    }
+    X_POWERS_4
 }
 
 // Writes blocks of sixteen, count of them: the last is lent, and each other is c times the one after it.
@@ -274,11 +257,9 @@ fn write_blocks(q: u8, c: u8, count: usize, last: &[u8; 16], grid: &mut [u8])
     ensures { BlocksWritten q c count last.now grid.old grid.new }
 {
     let mut factor = 1u8;
-    let mut b = count;
-    while 0 < b {
-        let end = 16 * b;
-        b -= 1;
+    for b in (0..count).rev() {
         let at = 16 * b;
+        let end = at + 16;
         let block = lanes::scale(q, factor, last);
         rows::copy(16, &block, &mut grid[at..end]);
         factor = field::symbol::times(q, c, factor);

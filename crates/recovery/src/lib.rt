@@ -24,9 +24,8 @@ ghost use Rattle.recovery.specs.Inner.Indicators.{blocks_of, YFactors, XPowers};
 ghost use Rattle.recovery.specs.Inner.Gaps.{gaps_of, known, heavy, IndicatorRows, KnownGrid, rest_answer};
 
 use code::{check, grid, term, unencoding};
-use field::Outcome;
+use field::{Outcome, Refusal};
 use linear::vectors;
-use poly::rows;
 
 pub mod indicator;
 
@@ -35,11 +34,9 @@ pub fn fill(word: &[u8], out: &mut [u8])
     requires { length out.old ≡ length word.now }
     ensures { out.new ≡ writes out.old (length word.now) (known word.now) }
 {
-    let mut p = 0;
-    while p < word.len() {
+    for p in 0..word.len() {
         let s = word[p];
         out[p] = if s == 255 { 0 } else { s };
-        p += 1;
     }
 }
 
@@ -55,6 +52,8 @@ pub fn known_short_grid(q: u8, series: u8, word: &[u8]) -> [u8; 64]
 }
 
 // The same of a long block.
+// kept: long blocks have functions of their own, here and in `code`: their arrays are not to stand in a short block's frame (the memory is
+// fixed), and one function over the arrays' lengths would take each of them as a parameter, since none can be computed from another.
 fn known_long_grid(series: u8, word: &[u8]) -> [u8; 512]
     requires { BrokenOver 8 (columns_of 8 series) 0 word.now }
     ensures { KnownGrid 8 (columns_of 8 series) word.now result × (length result ≡ 512) }
@@ -84,8 +83,7 @@ fn write_indicators(
 {
     let mut count = 0;
     let mut at = 0;
-    let mut p = 0;
-    while p < word.len() {
+    for p in 0..word.len() {
         if word[p] == 255 {
             let d = term::divide(q, p);
             let t = d.whole;
@@ -97,7 +95,6 @@ fn write_indicators(
             at = end;
             count += 1;
         }
-        p += 1;
     }
     count
 }
@@ -135,12 +132,10 @@ fn mark(q: u8, m: usize, high: &mut [u8])
 {
     let width = q as u16;
     let order = m as u16;
-    let mut e = 0;
-    while e < high.len() {
+    for e in 0..high.len() {
         let d = term::divide(q, e);
         let weight = e as u16 + width * (d.rest as u16);
         high[e] = if order < weight { 255 } else { 0 };
-        e += 1;
     }
 }
 
@@ -202,12 +197,12 @@ fn read_rest(q: u8, m: usize, count: usize, rank: usize, grid: &[u8], message: &
 {
     if grid::order_at_most(q, m, grid) {
         if rank < count {
-            return Outcome::Several((count - rank) as u16);
+            return Err(Refusal::Several((count - rank) as u16));
         }
         grid::gather(q, m, grid, message);
-        return Outcome::Done;
+        return Ok(());
     }
-    Outcome::NoMessage
+    Err(Refusal::NoMessage)
 }
 
 // What the symbols of a short block's broken word say. The grid is that of the word with 0 at each gap.
@@ -247,7 +242,7 @@ fn recover_long_over(
         ≡ answered result message.new }
 {
     let columns = points::long_columns(series);
-    rows::clear(work);
+    work.fill(0);
     let count = write_long_indicators(&columns, word, work);
     let mut grid = known_long_grid(series, word);
     let end = 512 * count;
@@ -261,10 +256,7 @@ pub fn recover(q: u8, series: u8, m: u16, word: &[u8], message: &mut [u8]) -> Ou
 {
     let order = m as usize;
     let taken = field::curve::is_short(q);
-    let checked = check::call(taken, true, true, q, series, order, word, message.len());
-    let Outcome::Done = checked else {
-        return checked;
-    };
+    check::call(taken, true, true, q, series, order, word, message.len())?;
     let mut grid = known_short_grid(q, series, word);
     recover_over(q, series, order, word, &mut grid, message)
 }
@@ -276,12 +268,9 @@ pub fn recover_long(series: u8, m: u16, word: &[u8], message: &mut [u8], work: &
     ensures kept_unless_worked { KeptUnlessWorked result work.old work.new }
 {
     let order = m as usize;
-    let checked = check::call(true, true, true, 8, series, order, word, message.len());
-    let Outcome::Done = checked else {
-        return checked;
-    };
+    check::call(true, true, true, 8, series, order, word, message.len())?;
     if work.len() != 262144 {
-        return Outcome::BadWork;
+        return Err(Refusal::BadWork);
     }
     recover_long_over(series, order, word, message, work)
 }

@@ -11,10 +11,10 @@ use lib.Dec.{eqb, leb}
 use lib.ListN.{length, get_or, take, drop, length-map, length-append}
 use lib.Seq.{length-take-le, take_at}
 use Rattle.field.specs.Curve.{is_short, IsShort, curve_of}
+use Rattle.std.specs.Prelude.{Err}
 use Rattle.field.specs.declared.curve.Curve.{Curve}
-use Rattle.field.specs.Outcomes.{number, refuse}
-use Rattle.field.specs.declared.outcome.Outcome.{Outcome}
-use Rattle.field.specs.declared.outcome.Outcome.TheVariants.{Done, BadCurve, BadPlace, BadSymbol}
+use Rattle.field.specs.Outcomes.{Outcome, Done, number, refuse}
+use Rattle.field.specs.declared.outcome.Refusal.TheVariants.{BadCurve, BadPlace, BadSymbol}
 use Rattle.field.proofs.Curves.{short_true, short_of_true, short_sizes}
 use Rattle.field.proofs.Outcomes.{passed, Follows, row_refused, row_passed}
 use Rattle.poly.proofs.Bools.{true_or_false}
@@ -170,10 +170,10 @@ module _ (s : Session) (place symbol : ℕ) where
       past_values : arrival_checks s place symbol ≡ last n Q
       past_values = past_order ∙ row_passed values values_follow o h.is_o (last n Q) d
 
-      pub checks_place : n ≤ place → arrival_checks s place symbol ≡ BadPlace
+      pub checks_place : n ≤ place → arrival_checks s place symbol ≡ Err BadPlace
       checks_place b = past_values ∙ rw (le-leb n place b)
 
-      pub checks_symbol : place < n → Q ≤ symbol → arrival_checks s place symbol ≡ BadSymbol
+      pub checks_symbol : place < n → Q ≤ symbol → arrival_checks s place symbol ≡ Err BadSymbol
       checks_symbol b l = past_values ∙ rw (lt-leb n place b, le-leb Q symbol l)
 
       pub checks_done : place < n → symbol < Q → arrival_checks s place symbol ≡ Done
@@ -187,7 +187,7 @@ module _ (s : Session) (place symbol : ℕ) where
       let Q = s.q * s.q in
       let a = order_rest (is_short s.q) s.q s.series s.m past_two e in
       let b = value_rest true Q (received_word s) (last n Q) a.2 in
-      let d = passed (leb n place) (refuse (leb Q symbol) BadSymbol Done) BadPlace (λ p. omega (arith, ap number p)) b.1 in
+      let d = passed (leb n place) (refuse (leb Q symbol) BadSymbol Done) BadPlace b.1 in
       (short_of_true s.q a.0, leb-false n place d.0)
 
   -- ---- an arrival
@@ -217,9 +217,9 @@ arrived_as_it_came s place symbol round e =
 -- ---- asking
 
 module _ (s : Session) (slice : List ℕ) where
-  refused_curve : is_short s.q ≡ false → (v : List ℕ) → recovered s.q s.series s.m v slice ≡ answered BadCurve slice
+  refused_curve : is_short s.q ≡ false → (v : List ℕ) → recovered s.q s.series s.m v slice ≡ answered (Err BadCurve) slice
   refused_curve e v =
-      recovered_refused s.q s.series s.m v slice BadCurve
+      recovered_refused s.q s.series s.m v slice (Err BadCurve)
       (order_curve (is_short s.q) s.q s.series s.m (slice_checks true (s.q * s.q) (s.q * s.q * s.q) v (size s.q s.m) (length slice) Done) e) refl
 
   -- recovery from the word that is read; where q names no curve of short blocks, whatever that is

@@ -6,8 +6,9 @@ use mathlib.Core.Path.{◌≡◌, refl, ◌∙◌}
 use Prim.Native.Nat.{ℕ, ◌*◌, ◌<◌}
 use lib.ListN.{length, length-map}
 use Rattle.field.specs.Curve.{is_short, IsShort}
-use Rattle.field.specs.declared.outcome.Outcome.{Outcome}
-use Rattle.field.specs.declared.outcome.Outcome.TheVariants.{Done, BadRoom}
+use Rattle.std.specs.Prelude.{Err}
+use Rattle.field.specs.Outcomes.{Outcome, Done}
+use Rattle.field.specs.declared.outcome.Refusal.TheVariants.{BadRoom}
 use Rattle.field.proofs.Curves.{short_true}
 use Rattle.points.specs.Series.{is_series}
 use Rattle.code.specs.Terms.{size}
@@ -50,9 +51,9 @@ module _ (q series m : ℕ) (block : IsShort q) (named : is_series series ≡ tr
       (checks
       ∙ slices_passed true (q * q) (q * q * q) (map received_value model) (size q m) (length slice) Done long Done good refl e)
 
-  pub asks_room : (length slice ≡ size q m → ⊥) → asked now slice ≡ answered BadRoom slice
+  pub asks_room : (length slice ≡ size q m → ⊥) → asked now slice ≡ answered (Err BadRoom) slice
   asks_room n =
       is_recovered
-      ∙ recovered_refused q series m (map received_value model) slice BadRoom
+      ∙ recovered_refused q series m (map received_value model) slice (Err BadRoom)
       (checks
       ∙ slices_room true (q * q) (q * q * q) (map received_value model) (size q m) (length slice) Done long Done good refl n) refl

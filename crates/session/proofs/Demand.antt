@@ -9,8 +9,9 @@ use native.Mathlib.Decide.{ℕ_discrete}
 use native.Mathlib.Omega.{arith}
 use lib.ListN.{length}
 use Rattle.field.specs.Curve.{IsCurve, IsShort}
-use Rattle.field.specs.Outcomes.{Says}
-use Rattle.field.specs.declared.outcome.Outcome.TheVariants.{Done, BadRoom, NoMessage, Several}
+use Rattle.std.specs.Prelude.{Err}
+use Rattle.field.specs.Outcomes.{Done, Says}
+use Rattle.field.specs.declared.outcome.Refusal.TheVariants.{BadRoom, NoMessage, Several}
 use Rattle.field.proofs.Curves.{short_curve}
 use Rattle.field.proofs.Outcomes.{says}
 use Rattle.points.specs.Series.{is_series}
@@ -71,7 +72,7 @@ module _ (q series m : ℕ) (accepted : Says (opened q series m).outcome 0 0) wh
     asks : (slice : List ℕ) → length slice ≡ size q m → asked (session_after q series m events) slice ≡ answer_of found slice
     asks slice e = let h = match_after events in rw h.is (asks_answer q series m block named order h.places h.rounds model h.represents slice e)
 
-    short : (slice : List ℕ) → (length slice ≡ size q m → ⊥) → asked (session_after q series m events) slice ≡ answered BadRoom slice
+    short : (slice : List ℕ) → (length slice ≡ size q m → ⊥) → asked (session_after q series m events) slice ≡ answered (Err BadRoom) slice
     short slice n = let h = match_after events in rw h.is (asks_room q series m block named order h.places h.rounds model h.represents slice n)
 
     claim : Claim q series m events
@@ -87,17 +88,17 @@ module _ (q series m : ℕ) (accepted : Says (opened q series m).outcome 0 0) wh
               rw (asks slice e) (λ a. w.0 (is.0 a.0, a.1), λ a. let b = w.1 a in (is.1 b.0, b.1));
           says_none = λ slice e.
               rw (asks slice e)
-              (both (says (answer_of found slice).outcome NoMessage)
+              (both (says (answer_of found slice).outcome (Err NoMessage))
               (both (answer_nothing found slice) (none_fits q series m curve model h.len h.small)));
           says_several = λ slice e r.
               rw (asks slice e)
-              (both (says (answer_of found slice).outcome (Several r))
+              (both (says (answer_of found slice).outcome (Err (Several r)))
               (both (answer_several found slice r) (several_fit q series m curve model h.len h.small r)));
           sure = λ enough slice r said. elim (ℕ_discrete (length slice) (size q m)) [
             | yes e ↦
                 never_two q series m curve model h.len h.small enough
                 ((several_fit q series m curve model h.len h.small r).0
-                ((answer_several found slice r).0 ((says (answer_of found slice).outcome (Several r)).0 (rw (asks slice e) at said)))).0
+                ((answer_several found slice r).0 ((says (answer_of found slice).outcome (Err (Several r))).0 (rw (asks slice e) at said)))).0
             | no d ↦ let a = rw (short slice d) at said in omega arith
           ];
         }

@@ -8,8 +8,9 @@ use Prim.Native.Nat.{ℕ, ◌*◌}
 use lib.Dec.{eqb}
 use lib.ListN.{length, take}
 use Rattle.field.specs.Curve.{is_short}
-use Rattle.field.specs.Outcomes.{number, Says}
-use Rattle.field.specs.declared.outcome.Outcome.TheVariants.{Done, BadCurve}
+use Rattle.std.specs.Prelude.{Err}
+use Rattle.field.specs.Outcomes.{Done, number, Says}
+use Rattle.field.specs.declared.outcome.Refusal.TheVariants.{BadCurve}
 use Rattle.field.proofs.Curves.{short_of_true}
 use Rattle.poly.proofs.Bools.{true_or_false}
 use Rattle.code.specs.Terms.{size}
@@ -30,7 +31,7 @@ use Rattle.session.proofs.Arrivals.{reads}
 
 module _ (s : Session) where
   -- where q names no curve of short blocks, the word makes no difference
-  refused_curve : is_short s.q ≡ false → (v : List ℕ) → open_checks s.q s.series s.m v ≡ BadCurve
+  refused_curve : is_short s.q ≡ false → (v : List ℕ) → open_checks s.q s.series s.m v ≡ Err BadCurve
   refused_curve e v =
       order_curve (is_short s.q) s.q s.series s.m
       (slice_checks true (s.q * s.q) (s.q * s.q * s.q) v (size s.q s.m) (size s.q s.m) Done) e
@@ -42,7 +43,7 @@ module _ (s : Session) where
     | inl t ↦ ap (opened s.q s.series s.m) (sym (reads s long w is (short_of_true s.q t)).word)
     | inr t ↦
         let v = take w.points w.places in
-        opened_alike s.q s.series s.m (received_word s) v BadCurve (refused_curve t (received_word s)) (refused_curve t v) refl
+        opened_alike s.q s.series s.m (received_word s) v (Err BadCurve) (refused_curve t (received_word s)) (refused_curve t v) refl
   ]
 
   -- "and meets refusals 1 to 4 as they do": where the opening is refused, so is asking, whatever slice is lent to it

@@ -12,10 +12,10 @@ use borrow.Author.Tests.{lt-ltb, le-ltb, ne_eqb}
 use lib.Dec.{T, eqb, ltb}
 use lib.ListN.{length, get_or, take, drop, set, replicate, length-map, length-set, length-replicate}
 use lib.Seq.{get_or-take, take-set-lt, drop-set-lt, get_or-set_same, get_or-set_other}
+use Rattle.std.specs.Prelude.{Err}
 use Rattle.field.specs.Curve.{is_short, IsShort}
-use Rattle.field.specs.Outcomes.{number}
-use Rattle.field.specs.declared.outcome.Outcome.{Outcome}
-use Rattle.field.specs.declared.outcome.Outcome.TheVariants.{Done, BadPlace, BadSymbol}
+use Rattle.field.specs.Outcomes.{Outcome, Done, number}
+use Rattle.field.specs.declared.outcome.Refusal.TheVariants.{BadPlace, BadSymbol}
 use Rattle.field.proofs.Curves.{short_sizes, short_of_true}
 use Rattle.poly.proofs.Lists.{get_or_map, map_set}
 use Rattle.points.specs.Series.{is_series}
@@ -282,10 +282,10 @@ module _ (q series m : ℕ) (block : IsShort q) (named : is_series series ≡ tr
       go : Dec (p < q * q * q) → Dec (s < q * q) → Step q series m now model p s r
       go (yes l) (yes k) = accepted_step l k
       go (yes l) (no k) =
-          refused_step BadSymbol (checks_symbol now p s _ _ _ checked refl l (omega arith)) refl (λ e. omega (arith, ap number e))
+          refused_step (Err BadSymbol) (checks_symbol now p s _ _ _ checked refl l (omega arith)) refl (λ e. omega (arith, ap number e))
           (rw (lt-ltb p (q * q * q) l, le-ltb s (q * q) (omega arith)))
       go (no l) k =
-          refused_step BadPlace (checks_place now p s _ _ _ checked refl (omega arith)) refl (λ e. omega (arith, ap number e))
+          refused_step (Err BadPlace) (checks_place now p s _ _ _ checked refl (omega arith)) refl (λ e. omega (arith, ap number e))
           (rw (le-ltb p (q * q * q) (omega arith)))
 
 pub step : (q series m : ℕ) → IsShort q → is_series series ≡ true → m < q * q * q → (session : Session) (model : Model) → Match q series m session model → (p s r : ℕ)

@@ -1,9 +1,8 @@
 -- An arrival, for every session and every argument.
 use Rattle.std.specs.Prelude.{true, cond, List, map, ℕ, ◌*◌, eqb, leb, ltb, get_or, take, set}
 use Rattle.field.specs.Curve.{is_short}
-use Rattle.field.specs.Outcomes.{number, refuse}
-use Rattle.field.specs.declared.outcome.Outcome.{Outcome}
-use Rattle.field.specs.declared.outcome.Outcome.TheVariants.{Done, BadPlace, BadSymbol}
+use Rattle.field.specs.Outcomes.{Outcome, Done, number, refuse}
+use Rattle.field.specs.declared.outcome.Refusal.TheVariants.{BadPlace, BadSymbol}
 use Rattle.code.specs.Checks.{order_checks, value_check}
 use Rattle.session.specs.declared.Stored.{Stored}
 use Rattle.session.specs.declared.Session.{Session}

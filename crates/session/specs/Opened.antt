@@ -1,8 +1,7 @@
 -- Opening, for every argument.
 use Rattle.std.specs.Prelude.{cond, ℕ, eqb, replicate}
 use Rattle.field.specs.Curve.{is_short}
-use Rattle.field.specs.Outcomes.{number}
-use Rattle.field.specs.declared.outcome.Outcome.TheVariants.{Done}
+use Rattle.field.specs.Outcomes.{Done, number}
 use Rattle.code.specs.Checks.{order_checks}
 use Rattle.session.specs.declared.Session.{Session}
 use Rattle.session.specs.declared.Reply.{Reply}

@@ -12,7 +12,7 @@ ghost use Rattle.session.specs.Inner.WordRead.{word_read};
 ghost use Rattle.job.specs.Task.{task_of};
 ghost use Rattle.job.specs.Sound.{Sound};
 
-use field::{Curve, Outcome};
+use field::{Curve, Outcome, Refusal};
 use job::Opening;
 
 // q, the strap series, m and for each place the symbol of the highest round received there, and that round: 255 and 0 where none was, and 254 where
@@ -22,11 +22,13 @@ pub struct Session {
     pub q: u8,
     pub series: u8,
     pub m: u16,
+    // kept: two arrays, since recovery reads the places as a slice
     pub places: [u8; 64],
     pub rounds: [u8; 64],
 }
 
 // What an opening or an arrival hands back.
+// kept: an arrival hands the session back with its outcome, and a refused opening hands one back too; the claim's theorem reads both.
 #[derive(Clone, Copy)]
 pub struct Reply {
     pub session: Session,
@@ -50,13 +52,11 @@ pub fn open(q: u8, series: u8, m: u16) -> Reply
     ensures { result ≡ opened q series m }
 {
     let outcome = code::check::order(field::curve::is_short(q), q, series, m as usize);
-    if let Outcome::Done = outcome {
-        let session = empty_session(q, series, m);
-        Reply { session, outcome }
-    } else {
-        let session = empty_session(2, 1, 0);
-        Reply { session, outcome }
-    }
+    let session = match outcome {
+        Ok(()) => empty_session(q, series, m),
+        Err(_) => empty_session(2, 1, 0),
+    };
+    Reply { session, outcome }
 }
 
 // What is stored for a place.
@@ -104,10 +104,8 @@ fn conflict_as_missing(x: u8) -> u8
 fn clear_conflicts(places: &mut [u8])
     ensures { places.new ≡ map conflict_as_missing places.old }
 {
-    let mut i = 0;
-    while i < places.len() {
-        places[i] = conflict_as_missing(places[i]);
-        i += 1;
+    for place in places.iter_mut() {
+        *place = conflict_as_missing(*place);
     }
 }
 
@@ -146,36 +144,30 @@ impl Session {
     fn check(self, place: u16, symbol: u8) -> Outcome
         ensures { result ≡ arrival_checks self place symbol }
     {
-        let first = code::check::order(
+        code::check::order(
             field::curve::is_short(self.q),
             self.q,
             self.series,
             self.m as usize,
-        );
-        let Outcome::Done = first else {
-            return first;
-        };
+        )?;
         let word = self.received_word();
         let n = word.points;
         let places = word.places;
-        let second = code::check::values(true, word.symbols, &places[..n]);
-        let Outcome::Done = second else {
-            return second;
-        };
+        code::check::values(true, word.symbols, &places[..n])?;
         if n <= place as usize {
-            return Outcome::BadPlace;
+            return Err(Refusal::BadPlace);
         }
         if word.symbols <= symbol {
-            return Outcome::BadSymbol;
+            return Err(Refusal::BadSymbol);
         }
-        Outcome::Done
+        Ok(())
     }
 
     pub fn arrive(mut self, place: u16, symbol: u8, round: u8) -> Reply
         ensures { result ≡ arrived self place symbol round }
     {
         let checked = self.check(place, symbol);
-        if let Outcome::Done = checked {
+        if checked.is_ok() {
             let at = place as usize;
             let stored = merge(self.places[at], self.rounds[at], symbol, round);
             self.places[at] = stored.value;

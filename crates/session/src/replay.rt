@@ -10,11 +10,8 @@ use field::Outcome;
 fn receive(mut session: Session, places: &[u16], symbols: &[u8], rounds: &[u8]) -> Session
     ensures { result ≡ session_from session (arrivals places.now symbols.now rounds.now) }
 {
-    let mut i = 0;
-    while i < places.len() && i < symbols.len() && i < rounds.len() {
-        let reply = session.arrive(places[i], symbols[i], rounds[i]);
-        session = reply.session;
-        i += 1;
+    for ((place, symbol), round) in places.iter().zip(symbols).zip(rounds) {
+        session = session.arrive(*place, *symbol, *round).session;
     }
     session
 }
@@ -33,11 +30,7 @@ pub fn replay(
         ≡ record { outcome = result; slice = message.new } }
 {
     let start = crate::open(q, series, m);
-    let outcome = start.outcome;
-    if let Outcome::Done = outcome {
-        let session = receive(start.session, places, symbols, rounds);
-        session.ask(message)
-    } else {
-        outcome
-    }
+    start.outcome?;
+    let session = receive(start.session, places, symbols, rounds);
+    session.ask(message)
 }

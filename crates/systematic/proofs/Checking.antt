@@ -8,10 +8,10 @@ use native.Mathlib.Omega.{arith}
 use borrow.Author.Tests.{not-false}
 use lib.ListN.{get_or}
 use Rattle.field.specs.Curve.{is_short, IsShort, curve_of}
-use Rattle.field.specs.Outcomes.{number}
+use Rattle.std.specs.Prelude.{Err}
+use Rattle.field.specs.Outcomes.{Outcome, Done, number}
 use Rattle.field.specs.declared.curve.Curve.{Curve}
-use Rattle.field.specs.declared.outcome.Outcome.{Outcome}
-use Rattle.field.specs.declared.outcome.Outcome.TheVariants.{Done, BadPlaces}
+use Rattle.field.specs.declared.outcome.Refusal.TheVariants.{BadPlaces}
 use Rattle.field.proofs.Curves.{short_true, short_of_true, short_sizes}
 use Rattle.field.proofs.Outcomes.{passed}
 use Rattle.poly.specs.Messages.{Vector}
@@ -40,7 +40,7 @@ module _ (q series m : ℕ) (places symbols : List ℕ) (room : ℕ) where
     good_test : good_places (size q m) (q * q * q) places ≡ good
     good_test = sym (good_is ∙ rw (k_is, v_is) refl)
 
-    pub refused_places : good ≡ false → BadPlaces ≡ encode_at_checks q series m places symbols room
+    pub refused_places : good ≡ false → Err BadPlaces ≡ encode_at_checks q series m places symbols room
     unfolding encode_at_checks
     refused_places e = sym (order_passed (is_short q) q series m _ (short_true q short) named order ∙ rw (good_test ∙ e))
 
@@ -65,7 +65,7 @@ module _ (q series m : ℕ) (places symbols : List ℕ) (room : ℕ) where
   unfolding encode_at_checks
   checks_passed e =
       let (taken, low, e1, named) = order_rest (is_short q) q series m _ e in
-      let (good, e2) = passed (not (good_places (size q m) (q * q * q) places)) _ BadPlaces (λ p. omega (arith, ap number p)) e1 in
+      let (good, e2) = passed (not (good_places (size q m) (q * q * q) places)) _ BadPlaces e1 in
       let a = slices_done false (q * q) (size q m) symbols (q * q * q) room e2 in
       record {
         short = short_of_true q taken;

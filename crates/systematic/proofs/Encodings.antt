@@ -12,9 +12,9 @@ use Prim.Native.Nat.{ℕ, ◌*◌, ◌<◌}
 use native.Mathlib.Omega.{arith}
 use lib.ListN.{length, get_or, replicate, length-replicate}
 use Rattle.field.specs.Curve.{IsCurve}
-use Rattle.field.specs.Outcomes.{number}
-use Rattle.field.specs.declared.outcome.Outcome.{Outcome}
-use Rattle.field.specs.declared.outcome.Outcome.TheVariants.{Done, NoInformationSet}
+use Rattle.std.specs.Prelude.{Err}
+use Rattle.field.specs.Outcomes.{Outcome, Done, number}
+use Rattle.field.specs.declared.outcome.Refusal.TheVariants.{NoInformationSet}
 use Rattle.field.proofs.Fields.{field_of}
 use Rattle.field.proofs.Curves.{sizes, short_curve}
 use Rattle.poly.specs.Messages.{Vector, all}
@@ -82,7 +82,7 @@ module _ (q series m : ℕ) (places symbols slice : List ℕ) (checked : encode_
   HasThem = Has q columns over m places chosen symbols
 
   past : encoded_at q series m places symbols slice
-      ≡ cond (is_information_set q columns m places) (the_codeword (codewords_with q columns m places symbols) slice) (answered NoInformationSet slice)
+      ≡ cond (is_information_set q columns m places) (the_codeword (codewords_with q columns m places symbols) slice) (answered (Err NoInformationSet) slice)
   unfolding encoded_at
   past = not_refused (encode_at_checks q series m places symbols (length slice)) slice _ checked
 
@@ -111,7 +111,7 @@ module _ (q series m : ℕ) (places symbols slice : List ℕ) (checked : encode_
       first [] sound k = absurd (not-nil k)
       first (w ∷ l) sound k = let (u, has, e) = sound w (head refl) in ap (answered Done) (sym e ∙ ap word_from (alone.only u has))
 
-  encoded_16 : (Fixes → ⊥) → encoded_at q series m places symbols slice ≡ answered NoInformationSet slice
+  encoded_16 : (Fixes → ⊥) → encoded_at q series m places symbols slice ≡ answered (Err NoInformationSet) slice
   encoded_16 d = elim (true_or_false (is_information_set q columns m places)) [
     | inl t ↦ absurd (d (fixing_of_test q columns over m places chosen order (rw t tt)))
     | inr e ↦ past ∙ rw e refl
@@ -166,12 +166,12 @@ module _ (q series m : ℕ) (places symbols slice : List ℕ) (checked : encode_
   -- ---- THE LAWS OF THE REQUEST
 
   -- "It refuses a set of places exactly when two codewords agree on all of them, whichever symbols come along."
-  pub refuses_exactly : ((encoded_at q series m places symbols slice).outcome ≡ NoInformationSet) ↔ TwoAgree q columns m places
+  pub refuses_exactly : ((encoded_at q series m places symbols slice).outcome ≡ Err NoInformationSet) ↔ TwoAgree q columns m places
   refuses_exactly = (
     λ e. ⊎_elim (λ two. two)
         (λ h.
         let (v, alone) = has_one q columns over m places chosen h symbols passed.message in
-        let z : Done ≡ NoInformationSet = sym (ap (λ (a : Answer). a.outcome) (encoded_fixed h v alone)) ∙ e in
+        let z : Done ≡ Err NoInformationSet = sym (ap (λ (a : Answer). a.outcome) (encoded_fixed h v alone)) ∙ e in
         absurd (omega (arith, ap number z)))
         (two_or_fixing q columns over m places chosen order),
     λ two. ap (λ (a : Answer). a.outcome) (encoded_16 (not_fixing q columns over m places chosen order two)),
@@ -192,7 +192,7 @@ module _ (q series m : ℕ) (places symbols slice : List ℕ) (checked : encode_
     where
       not_here : TwoAgree q columns m places → Encodes word
       not_here two =
-          let z : NoInformationSet ≡ Done = ap (λ (a : Answer). a.outcome) (sym (encoded_16 (not_fixing q columns over m places chosen order two)) ∙ e) in
+          let z : Err NoInformationSet ≡ Done = ap (λ (a : Answer). a.outcome) (sym (encoded_16 (not_fixing q columns over m places chosen order two)) ∙ e) in
           absurd (omega (arith, ap number z))
 
       here : Fixes → Encodes word
@@ -212,7 +212,7 @@ module _ (q series m : ℕ) (places symbols slice : List ℕ) (checked : encode_
 
   -- a call that passes the other checks is done, or refused with 16, which leaves the slice
   pub done_or_16 : ((word : List ℕ) × (encoded_at q series m places symbols slice ≡ answered Done word))
-      ⊎ (encoded_at q series m places symbols slice ≡ answered NoInformationSet slice)
+      ⊎ (encoded_at q series m places symbols slice ≡ answered (Err NoInformationSet) slice)
   done_or_16 =
       ⊎_elim (λ two. inr (encoded_16 (not_fixing q columns over m places chosen order two)))
       (λ h. let (v, alone) = has_one q columns over m places chosen h symbols passed.message in inl (word_from v, encoded_fixed h v alone))

@@ -13,7 +13,9 @@ use lib.ListN.{length, get_or, take, drop}
 use lib.Seq.{ext_get_or, get_or-take}
 use Rattle.field.specs.Plus.{plus}
 use Rattle.field.specs.Field.{Field}
-use Rattle.field.specs.declared.outcome.Outcome.TheVariants.{Done, NoInformationSet}
+use Rattle.std.specs.Prelude.{Err}
+use Rattle.field.specs.Outcomes.{Done}
+use Rattle.field.specs.declared.outcome.Refusal.TheVariants.{NoInformationSet}
 use Rattle.field.proofs.Plus.{plus_self, plus_cancel, eq_of_plus_zero}
 use Rattle.field.proofs.Fields.{field_of}
 use Rattle.field.proofs.Curves.{sizes, two_symbols}
@@ -268,7 +270,7 @@ unfolding completion
 completion_message word reading v slice e = ap (λ (r : Reading). completion word r slice) e
 
 pub completion_other : (word : List ℕ → List ℕ) (reading : Reading) (slice : List ℕ) → ((v : List ℕ) → reading ≡ message v → ⊥)
-    → completion word reading slice ≡ answered NoInformationSet slice
+    → completion word reading slice ≡ answered (Err NoInformationSet) slice
 unfolding completion
 completion_other word nothing slice d = refl
 completion_other word (message v) slice d = absurd (d v refl)

@@ -2,9 +2,9 @@
 -- the only codeword with those symbols there" (T-10).
 use Rattle.std.specs.Prelude.{false, not, cond, List, [], ◌∷◌, ℕ, length}
 use Rattle.field.specs.Curve.{is_short, curve_of}
-use Rattle.field.specs.Outcomes.{refuse}
-use Rattle.field.specs.declared.outcome.Outcome.{Outcome}
-use Rattle.field.specs.declared.outcome.Outcome.TheVariants.{Done, BadPlaces, NoInformationSet}
+use Rattle.std.specs.Prelude.{Err}
+use Rattle.field.specs.Outcomes.{Outcome, Done, refuse}
+use Rattle.field.specs.declared.outcome.Refusal.TheVariants.{BadPlaces, NoInformationSet}
 use Rattle.points.specs.Series.{columns_of}
 use Rattle.code.specs.Terms.{size}
 use Rattle.code.specs.Checks.{order_checks, slice_checks}
@@ -23,7 +23,7 @@ encode_at_checks q series m places symbols room =
 
 -- "16: places that don't fix the codeword, tested last". Where they do, just one codeword has the symbols: `encodes` (`proofs/Encodings`)
 abbrev pub the_codeword : List (List ℕ) → List ℕ → Answer
-the_codeword [] slice = answered NoInformationSet slice
+the_codeword [] slice = answered (Err NoInformationSet) slice
 the_codeword (word ∷ rest) slice = answered Done word
 
 unfoldable pub encoded_at : ℕ → ℕ → ℕ → List ℕ → List ℕ → List ℕ → Answer
@@ -31,4 +31,4 @@ encoded_at q series m places symbols slice =
     unless_refused (encode_at_checks q series m places symbols (length slice)) slice
     (cond (is_information_set q (columns_of q series) m places)
     (the_codeword (codewords_with q (columns_of q series) m places symbols) slice)
-    (answered NoInformationSet slice))
+    (answered (Err NoInformationSet) slice))

@@ -18,7 +18,7 @@ ghost use Rattle.systematic.specs.Inner.TermWords.{TermWords};
 
 use crate::term_words;
 use code::{encoding, term};
-use field::Outcome;
+use field::{Outcome, Refusal};
 use linear::vectors;
 use poly::rows;
 
@@ -27,10 +27,8 @@ fn mark_symbols(word: &[u8], high: &mut [u8])
     requires { length high.old ≡ length word.now }
     ensures { high.new ≡ writes high.old (length word.now) (λ p. 255 * one_if (present word.now p)) }
 {
-    let mut p = 0;
-    while p < word.len() {
+    for p in 0..word.len() {
         high[p] = if word[p] == 255 { 0 } else { 255 };
-        p += 1;
     }
 }
 
@@ -70,9 +68,9 @@ fn complete_by_terms(q: u8, series: u8, m: usize, k: usize, word: &[u8], out: &m
     if take_out(q, m, k, word, &mut words[..end], &mut left) {
         rows::copy(n, &known, out);
         rows::add(n, &left, out);
-        return Outcome::Done;
+        return Ok(());
     }
-    Outcome::NoInformationSet
+    Err(Refusal::NoInformationSet)
 }
 
 // By the missing symbols: the message is recovered, and encoded.
@@ -83,12 +81,11 @@ fn complete_by_gaps(q: u8, series: u8, m: usize, k: usize, word: &[u8], out: &mu
 {
     let mut grid = recovery::known_short_grid(q, series, word);
     let mut message = [0u8; 64];
-    let read = recovery::recover_over(q, series, m, word, &mut grid, &mut message[..k]);
-    let Outcome::Done = read else {
-        return Outcome::NoInformationSet;
-    };
+    recovery::recover_over(q, series, m, word, &mut grid, &mut message[..k]).or(Err(
+        Refusal::NoInformationSet,
+    ))?;
     encoding::write_word(q, series, m, &message[..k], out);
-    Outcome::Done
+    Ok(())
 }
 
 pub fn complete(q: u8, series: u8, m: usize, word: &[u8], out: &mut [u8]) -> Outcome

@@ -2,12 +2,12 @@
 #![tactic(auto)]
 
 ghost use Rattle.std.specs.Prelude.{◌≡◌, length};
-ghost use Rattle.field.specs.declared.outcome.Outcome.TheVariants.{Done};
+ghost use Rattle.field.specs.Outcomes.{Done};
 ghost use Rattle.code.specs.Answers.{answered};
 ghost use Rattle.systematic.specs.EncodedAt.{encode_at_checks, encoded_at};
 
 use code::{check, term};
-use field::{Curve, Outcome};
+use field::{Curve, Outcome, Refusal};
 
 pub mod completion;
 pub mod places;
@@ -17,16 +17,13 @@ pub mod term_words;
 fn check_call(q: u8, series: u8, m: usize, places: &[u16], symbols: &[u8], room: usize) -> Outcome
     ensures { result ≡ encode_at_checks q series m places.now symbols.now room }
 {
-    let first = check::order(field::curve::is_short(q), q, series, m);
-    let Outcome::Done = first else {
-        return first;
-    };
+    check::order(field::curve::is_short(q), q, series, m)?;
     let curve = Curve::at(q);
     let k = term::size(q, m);
     if places::are_good(k, curve.points, places) {
         return check::slices(false, curve.symbols, k, symbols, curve.points, room);
     }
-    Outcome::BadPlaces
+    Err(Refusal::BadPlaces)
 }
 
 // The codeword that has the symbols at the places, of a call that is past the checks.
@@ -59,9 +56,6 @@ pub fn encode_at(
     ensures { encoded_at q series m places.now symbols.now word.old ≡ answered result word.new }
 {
     let order = m as usize;
-    let checked = check_call(q, series, order, places, symbols, word.len());
-    let Outcome::Done = checked else {
-        return checked;
-    };
+    check_call(q, series, order, places, symbols, word.len())?;
     write_codeword(q, series, order, places, symbols, word)
 }

@@ -10,6 +10,7 @@ ghost use Rattle.code.specs.Terms.{size};
 ghost use Rattle.systematic.specs.Inner.TermWords.{PowerRows, PointLists, ProductRows, TermWords};
 
 use code::term;
+use field::symbol::ShortBlocks;
 use poly::{lanes, rows};
 
 // row[j] = by[j] * row[j]
@@ -19,14 +20,13 @@ fn multiply(q: u8, by: &[u8], row: &mut [u8])
     ensures { row.new ≡ writes row.old (length row.old)
         (λ j. (field_of q).times (entry by.now j) (entry row.old j)) }
 {
-    let mut j = 0;
-    while j < row.len() {
+    for i in 0..row.len() / 16 {
+        let j = 16 * i;
         let a = lanes::take(by, j);
         let old = lanes::take(row, j);
-        let new = lanes::multiply_short(q, &a, &old);
+        let new = lanes::multiply_in::<ShortBlocks>(q, &a, &old);
         let end = j + 16;
         rows::copy(16, &new, &mut row[j..end]);
-        j = end;
     }
 }
 
@@ -38,13 +38,11 @@ fn write_powers(q: u8, base: &[u8], count: usize, table: &mut [u8])
 {
     let mut row = [1u8; 64];
     let mut at = 0;
-    let mut i = 0;
-    while i < count {
+    for i in 0..count {
         let end = at + 64;
         rows::copy(64, &row, &mut table[at..end]);
         multiply(q, base, &mut row);
         at = end;
-        i += 1;
     }
 }
 
@@ -65,9 +63,8 @@ fn write_products(q: u8, m: usize, k: usize, xpowers: &[u8], ypowers: &[u8], vec
     requires below { Below (field_of q).size xpowers.now × Below (field_of q).size ypowers.now }
     ensures { ProductRows q m xpowers.now ypowers.now vectors.new k }
 {
-    let mut t = 0;
     let mut at = 0;
-    while t < k {
+    for t in 0..k {
         let e = term::entry(q, t);
         let d = term::divide(q, e);
         let a = 64 * d.whole;
@@ -82,7 +79,6 @@ fn write_products(q: u8, m: usize, k: usize, xpowers: &[u8], ypowers: &[u8], vec
             &mut vectors[at..end],
         );
         at = end;
-        t += 1;
     }
 }
 
@@ -94,15 +90,13 @@ fn write_points(q: u8, columns: &[u8], all: &[u8], xs: &mut [u8], ys: &mut [u8])
     ensures { PointLists q columns.now xs.new ys.new }
 {
     let n = (q as usize) * columns.len();
-    let mut p = 0;
-    while p < n {
+    for p in 0..n {
         let d = term::divide(q, p);
         let t = d.whole;
         let x = columns[t];
         let i = (q as usize) * (x as usize) + d.rest;
         xs[p] = x;
         ys[p] = all[i];
-        p += 1;
     }
 }
 

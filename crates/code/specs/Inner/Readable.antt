@@ -2,7 +2,9 @@
 -- at q·i + j.
 use Rattle.std.specs.Prelude.{Bool, cond, List, ◌≡◌, ℕ, ◌+◌, ◌*◌, ◌≤◌, ◌<◌, length, get_or}
 use Rattle.field.proofs.Fields.{field_of}
-use Rattle.field.specs.declared.outcome.Outcome.TheVariants.{Done, NoMessage}
+use Rattle.std.specs.Prelude.{Err}
+use Rattle.field.specs.Outcomes.{Done}
+use Rattle.field.specs.declared.outcome.Refusal.TheVariants.{NoMessage}
 use Rattle.poly.specs.Inner.Ranges.{Below}
 use Rattle.poly.specs.Inner.Polynomials.{value}
 use Rattle.poly.proofs.Interpolants.{at_column}
@@ -66,4 +68,4 @@ long_answer decodes series m input slice =
 
 -- of a grid, its message where it has no coefficient of a weight above m
 abbrev pub grid_answer : ℕ → ℕ → List ℕ → List ℕ → Answer
-grid_answer q m grid slice = cond (order_at_most q m (length grid) grid) (answered Done (gather q m grid)) (answered NoMessage slice)
+grid_answer q m grid slice = cond (order_at_most q m (length grid) grid) (answered Done (gather q m grid)) (answered (Err NoMessage) slice)

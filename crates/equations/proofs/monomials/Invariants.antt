@@ -1,6 +1,5 @@
 -- `code::equation::monomials` meets its contract: each turn writes one row, which is x times the one before.
 use mathlib.Core.Path.{◌≡◌}
-use Prim.Native.Nat.{◌-◌, ◌*◌}
 use lib.ListN.{length}
 use Rattle.poly.specs.Inner.Ranges.{Blocks}
 use Rattle.code.specs.Inner.Rows.{term_at}
@@ -8,8 +7,4 @@ use Rattle.equations.proofs.Equations.{RowAt}
 use Rattle.equations.proofs.monomials.Given as goal
 
 abbrev pub invariant-loop-i : goal.invariant-loop-i
-invariant-loop-i l =
-    (l.at ≡ l.q * l.i) × (length l.grid ≡ length l.initial.grid) × RowAt l.q l.x l.y l.i l.row × Blocks l.q (term_at l.q l.x l.y) l.grid l.i
-
-abbrev pub decreases-loop-i : goal.decreases-loop-i
-decreases-loop-i l = l.n - l.i
+invariant-loop-i l = (length l.grid ≡ length l.initial.grid) × RowAt l.q l.x l.y l.i l.row × Blocks l.q (term_at l.q l.x l.y) l.grid l.i

@@ -10,21 +10,21 @@ use Rattle.poly.specs.Inner.Ranges.{writes}
 use Rattle.poly.proofs.Writes.{writes_turn}
 use Rattle.equations.proofs.powers.Goals as goal
 
-pub loop-i-init : goal.loop-i-init
+pub loop-entry-init : goal.loop-entry-init
 unfolding writes
-loop-i-init c = (omega arith, refl, sym (power_zero (field_of c.args.q) c.args.x), refl)
+loop-entry-init c = (omega arith, refl, sym (power_zero (field_of c.args.q) c.args.x), refl)
 
 pub times-next-requires : goal.times-next-requires
 times-next-requires c =
-    (c.requires, rw c.loop-i.invariant.2 (power_lt (field_of c.args.q) c.args.x c.loop-i.i))
+    (c.requires, rw c.loop-entry.invariant.2 (power_lt (field_of c.args.q) c.args.x c.loop-entry.entry-index))
 
-pub loop-i-preserved : goal.loop-i-preserved
-loop-i-preserved c =
+pub loop-entry-preserved : goal.loop-entry-preserved
+loop-entry-preserved c =
     let x = c.args in
-    let l = c.loop-i in
+    let l = c.loop-entry in
     let F = field_of x.q in (
       omega arith,
       simp length-set l.invariant.1,
-      c.times-next.ensures ∙ ap (F.times x.x) l.invariant.2 ∙ sym (power_next F x.x l.i),
-      writes_turn x.out.now (power F x.x) l.out l.i l.next l.invariant.3 l.invariant.2,
+      c.times-next.ensures ∙ ap (F.times x.x) l.invariant.2 ∙ sym (power_next F x.x l.entry-index),
+      writes_turn x.out.now (power F x.x) l.out l.entry-index l.next l.invariant.3 l.invariant.2,
     )

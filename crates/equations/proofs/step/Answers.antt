@@ -38,5 +38,5 @@ returns-in-Redundant c =
 pub returns-in-Contradiction : goal.returns-in-Contradiction
 returns-in-Contradiction c =
     let x = c.args in
-    clash x.q x.columns.now x.m x.p x.s x.work.now _ x.rank x.rank
+    clash x.q x.columns.now x.m x.p x.s x.work.now _ x.rank
     c.if-s-eq255.false (brought (goal.at.returns-in-Contradiction c).After-bring_place _ c.in-Contradiction.is)

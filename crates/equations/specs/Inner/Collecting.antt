@@ -1,5 +1,5 @@
 -- The equations of a broken word over columns, and what the functions that bring them into a system ask and give.
-use Rattle.std.specs.Prelude.{Bool, true, false, cond, List, ◌↔◌, ◌≡◌, ℕ, ◌<◌, eqb, get_or}
+use Rattle.std.specs.Prelude.{Option, Some, None, cond, List, ◌↔◌, ◌≡◌, ℕ, ◌<◌, eqb, get_or}
 use Rattle.field.proofs.Fields.{field_of}
 use Rattle.poly.specs.Inner.Linear.{entry, dot}
 use Rattle.linear.specs.Inner.Systems.{flat, Satisfies, rank, WellFormed}
@@ -37,7 +37,7 @@ pub record Taken (q : ℕ) (columns : List ℕ) (m p s rank₀ : ℕ) (work work
   pub both : (v : ℕ → ℕ) → (Satisfies (field_of q) (size q m) (flat 64 (size q m) work) v × FitsAt q columns m p s v)
       ↔ Satisfies (field_of q) (size q m) (flat 64 (size q m) work') v
 
-abbrev pub Advanced : ℕ → List ℕ → ℕ → ℕ → ℕ → ℕ → List ℕ → List ℕ → Bool → ℕ → Type 0
-Advanced q columns m p s rank₀ work work' true r =
+abbrev pub Advanced : ℕ → List ℕ → ℕ → ℕ → ℕ → ℕ → List ℕ → List ℕ → Option ℕ → Type 0
+Advanced q columns m p s rank₀ work work' None =
     (v : ℕ → ℕ) → Satisfies (field_of q) (size q m) (flat 64 (size q m) work) v → FitsAt q columns m p s v → ⊥
-Advanced q columns m p s rank₀ work work' false r = Taken q columns m p s rank₀ work work' r
+Advanced q columns m p s rank₀ work work' (Some r) = Taken q columns m p s rank₀ work work' r

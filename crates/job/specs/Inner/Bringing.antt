@@ -1,6 +1,8 @@
 -- What the functions that bring symbols in ask and give.
-use Rattle.std.specs.Prelude.{Bool, true, false, cond, List, ◌++◌, ◌⊎◌, ◌≡◌, ℕ, ◌+◌, ◌-◌, ◌*◌, ◌≤◌, ◌<◌, eqb, ltb, length, get_or, take, replicate}
-use Rattle.field.specs.declared.outcome.Outcome.TheVariants.{Done, NoMessage, Several}
+use Rattle.std.specs.Prelude.{Bool, true, false, Option, Some, None, is_none, Err, cond, List, ◌++◌, ◌⊎◌, ◌≡◌, ℕ, ◌+◌, ◌-◌, ◌*◌, ◌≤◌, ◌<◌, eqb, ltb, length, get_or, take, replicate}
+use Rattle.std.specs.Option.{option_eq}
+use Rattle.field.specs.Outcomes.{Outcome, Done}
+use Rattle.field.specs.declared.outcome.Refusal.TheVariants.{NoMessage, Several}
 use Rattle.field.proofs.Fields.{field_of}
 use Rattle.poly.specs.Messages.{Vector}
 use Rattle.poly.specs.Inner.Linear.{entry}
@@ -37,18 +39,18 @@ pub record Collecting (q : ℕ) (columns : List ℕ) (m : ℕ) (word work₀ : L
   pub collected : Collected q columns m word work₀ p₀ r₀ → Collected q columns m word work p r
 
 -- how it ends: with a clash; or with complete rows, or where the count stops
-abbrev pub Collects : ℕ → List ℕ → ℕ → List ℕ → ℕ → List ℕ → ℕ → ℕ → List ℕ → ℕ → ℕ → ℕ → Bool → Type 0
-Collects q columns m word budget work₀ p₀ r₀ work p r b true =
+abbrev pub Collects : ℕ → List ℕ → ℕ → List ℕ → ℕ → List ℕ → ℕ → ℕ → List ℕ → ℕ → Option ℕ → ℕ → Type 0
+Collects q columns m word budget work₀ p₀ r₀ work p None b =
     Collected q columns m word work₀ p₀ r₀ → (v : ℕ → ℕ) → FitsBelow q columns m word p v → ⊥
-Collects q columns m word budget work₀ p₀ r₀ work p r b false =
+Collects q columns m word budget work₀ p₀ r₀ work p (Some r) b =
     Collecting q columns m word work₀ p₀ r₀ work p r × ((r ≡ size q m) ⊎ Stopped word budget p b)
 
--- the symbols from p₀ to p are those of whole, unless there is a clash, and then there was one, or one of them differs
-abbrev pub Compared : List ℕ → List ℕ → ℕ → Bool → ℕ → Bool → Type 0
-Compared word whole p₀ clash₀ p true =
-    (clash₀ ≡ true) ⊎ ((i : ℕ) × (p₀ ≤ i) × (i < p) × (get_or word i 0 ≡ 255 → ⊥) × (get_or whole i 0 ≡ get_or word i 0 → ⊥))
-Compared word whole p₀ clash₀ p false =
-    (clash₀ ≡ false) × ((i : ℕ) → p₀ ≤ i → i < p → (get_or word i 0 ≡ 255 → ⊥) → get_or whole i 0 ≡ get_or word i 0)
+-- the symbols from p₀ to p are those of whole, and the rows stay, unless there is a clash, and then there was one, or one of them differs
+abbrev pub Compared : List ℕ → List ℕ → ℕ → Option ℕ → ℕ → Option ℕ → Type 0
+Compared word whole p₀ r₀ p None =
+    (r₀ ≡ None) ⊎ ((i : ℕ) × (p₀ ≤ i) × (i < p) × (get_or word i 0 ≡ 255 → ⊥) × (get_or whole i 0 ≡ get_or word i 0 → ⊥))
+Compared word whole p₀ r₀ p (Some r) =
+    (r₀ ≡ Some r) × ((i : ℕ) → p₀ ≤ i → i < p → (get_or word i 0 ≡ 255 → ⊥) → get_or whole i 0 ≡ get_or word i 0)
 
 -- what a job of any bytes is tested for: after a clash nothing is read of it
 abbrev pub Usable : ℕ → ℕ → List ℕ → List ℕ → Bool → Bool → Type 0
@@ -74,19 +76,30 @@ pub record Fresh (q series m : ℕ) (word : List ℕ) (j : Job) : Type 0 where
   pub complete : j.complete ≡ false
   pub clash : j.clash ≡ false
 
+-- whether the rows that `bring` leaves, none after a clash, are complete
+abbrev pub is_complete : ℕ → Option ℕ → Bool
+is_complete k rows = option_eq eqb rows (Some k)
+
+-- the reply by them, while symbols remain and at the end
+abbrev pub working_by : ℕ → Option ℕ → Reply
+working_by k None = NoneFits
+working_by k (Some r) = Leaves (k - r)
+
+abbrev pub finished_by : ℕ → Option ℕ → Outcome
+finished_by k None = Err NoMessage
+finished_by k (Some r) = cond (ltb r k) (Err (Several (k - r))) Done
+
 -- by what `bring` leaves, k and n: the reply
 unfoldable pub reply_by : ℕ → ℕ → Progress → Reply
-reply_by k n r =
-    cond (ltb r.next n) (cond r.clash NoneFits (Leaves (k - r.rank)))
-    (Finished (cond r.clash NoMessage (cond (ltb r.rank k) (Several (k - r.rank)) Done)))
+reply_by k n r = cond (ltb r.next n) (working_by k r.rank) (Finished (finished_by k r.rank))
 
 pub record Brings (q series m : ℕ) (word : List ℕ) (budget : ℕ) (work₀ candidate₀ whole₀ : List ℕ) (p₀ : ℕ) (complete₀ clash₀ : Bool)
     (work candidate whole : List ℕ) (r : Progress) : Type 0 where
   pub counts : Counted word budget p₀ 0 r.next r.brought
   pub stops : Stopped word budget r.next r.brought
   -- without a clash: at most k rows, and with k of them a message
-  pub rows : r.clash ≡ false → r.rank ≤ size q m
-  pub message : r.clash ≡ false → r.rank ≡ size q m → Vector (field_of q).size (size q m) candidate
-  pub fewer : r.clash ≡ false → r.rank < size q m → r.rank ≡ rank (size q m) (flat 64 (size q m) work)
+  pub rows : (n : ℕ) → r.rank ≡ Some n → n ≤ size q m
+  pub message : r.rank ≡ Some (size q m) → Vector (field_of q).size (size q m) candidate
+  pub fewer : (n : ℕ) → r.rank ≡ Some n → n < size q m → n ≡ rank (size q m) (flat 64 (size q m) work)
   pub stands : Standing q series m word work₀ candidate₀ whole₀ p₀ complete₀ clash₀
-      → Standing q series m word work candidate whole r.next (eqb r.rank (size q m)) r.clash
+      → Standing q series m word work candidate whole r.next (is_complete (size q m) r.rank) (is_none r.rank)

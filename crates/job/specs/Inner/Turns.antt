@@ -1,6 +1,6 @@
 -- What a list of calls leaves, each lent the slice that the one before it left.
 use Rattle.std.specs.Prelude.{List, ◌⊎◌, ◌≡◌, ℕ, ◌≤◌, length}
-use Rattle.field.specs.declared.outcome.Outcome.TheVariants.{Done}
+use Rattle.field.specs.Outcomes.{Done}
 use Rattle.code.specs.Terms.{size}
 use Rattle.code.specs.Answers.{answered}
 use Rattle.code.specs.Recovered.{recovered}

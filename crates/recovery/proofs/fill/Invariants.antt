@@ -8,6 +8,3 @@ use Rattle.recovery.proofs.fill.Given as goal
 
 abbrev pub invariant-loop-p : goal.invariant-loop-p
 invariant-loop-p l = (l.p ≤ length l.word) × (length l.out ≡ length l.initial.out) × (l.out ≡ writes l.initial.out l.p (known l.word))
-
-abbrev pub decreases-loop-p : goal.decreases-loop-p
-decreases-loop-p l = length l.word - l.p

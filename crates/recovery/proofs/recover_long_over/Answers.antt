@@ -32,7 +32,7 @@ points : (c : goal.After-write_long_indicators-count) → 8 * length c.long_colu
 points c = omega (arith, full (goal.at.After-write_long_indicators-count c).After-write_long_indicators-count)
 
 room : (c : goal.After-write_long_indicators-count) → 512 * 512 ≤ length c.write_long_indicators-count.new.vectors
-room c = omega (arith, c.write_long_indicators-count.auto.vectors, c.clear.auto.row, c.requires.2)
+room c = omega (arith, c.write_long_indicators-count.auto.vectors, c.fill.auto.self, c.requires.2)
 
 -- the gaps' vectors, and the part of them that is lent
 lent : (c : goal.After-write_long_indicators-count) → let w = c.write_long_indicators-count in

@@ -7,6 +7,3 @@ use Rattle.recovery.proofs.write_indicators.Given as goal
 abbrev pub invariant-loop-p : goal.invariant-loop-p
 invariant-loop-p l =
     RowsBelow l.q l.columns l.word l.stride l.initial.vectors l.vectors l.count l.at l.p
-
-abbrev pub decreases-loop-p : goal.decreases-loop-p
-decreases-loop-p l = length l.word - l.p

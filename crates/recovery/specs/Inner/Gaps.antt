@@ -2,7 +2,9 @@
 -- are 1 at one gap and 0 elsewhere, and so are their grids.
 use Rattle.std.specs.Prelude.{Bool, cond, List, ◌≡◌, ℕ, ◌+◌, ◌-◌, ◌*◌, ◌/◌, ◌%◌, ◌≤◌, ◌<◌, eqb, ltb, length, get_or}
 use Rattle.field.proofs.Fields.{field_of}
-use Rattle.field.specs.declared.outcome.Outcome.TheVariants.{Done, NoMessage, Several}
+use Rattle.std.specs.Prelude.{Err}
+use Rattle.field.specs.Outcomes.{Done}
+use Rattle.field.specs.declared.outcome.Refusal.TheVariants.{NoMessage, Several}
 use Rattle.poly.specs.Lists.{one_if}
 use Rattle.poly.specs.Inner.Ranges.{Below}
 use Rattle.poly.specs.Inner.Linear.{entry}
@@ -57,8 +59,8 @@ pub record IndicatorRows (q : ℕ) (columns gaps : List ℕ) (stride : ℕ) (vec
 -- what is answered from the grid that elimination leaves, count gaps' vectors having the rank
 abbrev pub rest_answer : ℕ → ℕ → ℕ → ℕ → List ℕ → List ℕ → Answer
 rest_answer q m count rank grid slice =
-    cond (order_at_most q m (length grid) grid) (cond (ltb rank count) (answered (Several (count - rank)) slice) (answered Done (gather q m grid)))
-    (answered NoMessage slice)
+    cond (order_at_most q m (length grid) grid) (cond (ltb rank count) (answered (Err (Several (count - rank))) slice) (answered Done (gather q m grid)))
+    (answered (Err NoMessage) slice)
 
 -- the grid of the word with 0 at the gaps, and zeros
 pub record KnownGrid (q : ℕ) (columns broken grid : List ℕ) : Type 0 where

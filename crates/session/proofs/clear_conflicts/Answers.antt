@@ -8,18 +8,18 @@ use Rattle.poly.proofs.Writes.{writes_turn, writes_kept, writes_end, writes_map}
 use Rattle.session.specs.Arrived.{conflict_as_missing}
 use Rattle.session.proofs.clear_conflicts.Goals as goal
 
-pub loop-i-init : goal.loop-i-init
+pub loop-place-init : goal.loop-place-init
 unfolding writes
-loop-i-init c = (omega arith, refl, refl)
+loop-place-init c = (omega arith, refl, refl)
 
-pub loop-i-preserved : goal.loop-i-preserved
-loop-i-preserved c =
-    let l = c.loop-i in
-    let was = writes_kept _ _ l.places l.i l.invariant.2 in
-    let next = writes_turn _ _ l.places l.i _ l.invariant.2 (c.conflict_as_missing.ensures ∙ ap conflict_as_missing was) in
+pub loop-place-preserved : goal.loop-place-preserved
+loop-place-preserved c =
+    let l = c.loop-place in
+    let was = writes_kept _ _ l.places l.place-index l.invariant.2 in
+    let next = writes_turn _ _ l.places l.place-index _ l.invariant.2 (c.conflict_as_missing.ensures ∙ ap conflict_as_missing was) in
     (omega arith, simp length-set l.invariant.1, next)
 
 pub returns : goal.returns
 returns c =
-    let l = c.loop-i in
-    writes_end _ _ l.places l.i _ l.invariant.2 l.invariant.0 (omega arith) ∙ writes_map conflict_as_missing _
+    let l = c.loop-place in
+    writes_end _ _ l.places l.place-index _ l.invariant.2 l.invariant.0 (omega arith) ∙ writes_map conflict_as_missing _

@@ -1,7 +1,9 @@
 -- A broken word that one message fits, completed to its word.
 use Rattle.std.specs.Prelude.{Bool, true, false, List, ◌≡◌, ℕ, ◌*◌, ◌<◌, length, get_or}
 use Rattle.field.specs.Plus.{plus}
-use Rattle.field.specs.declared.outcome.Outcome.TheVariants.{Done, NoInformationSet}
+use Rattle.std.specs.Prelude.{Err}
+use Rattle.field.specs.Outcomes.{Done}
+use Rattle.field.specs.declared.outcome.Refusal.TheVariants.{NoInformationSet}
 use Rattle.field.proofs.Fields.{field_of}
 use Rattle.poly.specs.Inner.Linear.{entry}
 use Rattle.code.specs.Answers.{Answer, answered}
@@ -12,9 +14,9 @@ use Rattle.recovery.specs.Inner.Gaps.{known}
 
 -- the word of the one message that fits; where none or several do, the slice as it was
 unfoldable pub completion : (List ℕ → List ℕ) → Reading → List ℕ → Answer
-completion word nothing slice = answered NoInformationSet slice
+completion word nothing slice = answered (Err NoInformationSet) slice
 completion word (message v) slice = answered Done (word v)
-completion word (several r) slice = answered NoInformationSet slice
+completion word (several r) slice = answered (Err NoInformationSet) slice
 
 -- by the answer: one message fits, and what is left is its word and what was known; or not one does
 abbrev pub Solved : ℕ → List ℕ → ℕ → List ℕ → List ℕ → Bool → Type 0

@@ -6,6 +6,3 @@ use Rattle.chosen_columns.proofs.columns.are_good.Given as goal
 
 abbrev pub invariant-loop-i : goal.invariant-loop-i
 invariant-loop-i l = FirstAscend l.size l.columns l.least l.i
-
-abbrev pub decreases-loop-i : goal.decreases-loop-i
-decreases-loop-i l = length l.columns - l.i

@@ -1,7 +1,8 @@
 -- `code::check::first_bad` meets its contract: where the highest value is a symbol none is bad; else what is left of the list is searched
 -- as the list is.
 -- Assumes nothing.
-use mathlib.Core.Path.{sym, ◌∙◌}
+use mathlib.Core.Path.{◌≡◌, sym, ◌∙◌}
+use lib.ListN.{length}
 use native.Mathlib.Omega.{arith}
 use Rattle.field.proofs.Values.{bad_found, bad_turn, bad_none}
 use Rattle.code.proofs.Highest.{symbols_good}
@@ -23,4 +24,7 @@ loop-i-preserved c =
     (omega arith, bad_turn _ _ l.i l.invariant.1 c.loop-i-test.true (sym c.is_bad.ensures ∙ c.if-is_bad.false))
 
 pub returns : goal.returns
-returns c = let l = c.loop-i in bad_none _ _ l.i l.invariant.1 c.loop-i-test.false
+returns c =
+    let l = c.loop-i in
+    let all : length c.args.values.now ≡ l.i = omega (arith, l.invariant.0, c.loop-i-test.false) in
+    all ∙ bad_none _ _ l.i l.invariant.1 c.loop-i-test.false

@@ -8,6 +8,3 @@ use Rattle.code.proofs.check.first_bad.Given as goal
 abbrev pub invariant-loop-i : goal.invariant-loop-i
 invariant-loop-i l =
     (l.i ≤ length l.values) × (first_bad (bad_value l.gaps l.size) l.values ≡ l.i + first_bad (bad_value l.gaps l.size) (drop l.i l.values))
-
-abbrev pub decreases-loop-i : goal.decreases-loop-i
-decreases-loop-i l = length l.values - l.i

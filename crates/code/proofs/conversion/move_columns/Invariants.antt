@@ -6,6 +6,3 @@ use Rattle.code.proofs.conversion.move_columns.Given as goal
 
 abbrev pub invariant-loop-t : goal.invariant-loop-t
 invariant-loop-t l = (l.t ≤ length l.from) × Moved l.q l.from l.to l.word l.initial.out l.out l.t
-
-abbrev pub decreases-loop-t : goal.decreases-loop-t
-decreases-loop-t l = length l.from - l.t

@@ -1,10 +1,6 @@
 -- `code::encoding::evaluate_column` meets its contract: sixteen values, of which the first q are stored.
 -- Assumes nothing.
-use mathlib.Core.Path.{◌≡◌, sym, ◌∙◌, subst}
-use Prim.Native.Nat.{ℕ, ◌+◌, ◌*◌}
-use lib.ListN.{get_or}
-use Rattle.field.proofs.Fields.{field_of}
-use Rattle.poly.specs.Inner.Polynomials.{value}
+use mathlib.Core.Path.{◌≡◌, ◌∙◌}
 use Rattle.poly.specs.Inner.Linear.{entry}
 use Rattle.poly.specs.Inner.Lanes.{lanes}
 use Rattle.code.specs.Inner.Encodable.{in_y}
@@ -16,12 +12,9 @@ use Rattle.code.proofs.encoding.evaluate_column.Goals.{Joined-q-eq8, else-q-eq8,
 values_are : (c : goal.Joined-q-eq8) → let x = c.args in
     c.if-q-eq8.values ≡ lanes (λ s. in_y x.q x.rows.now x.t (entry x.ys.now s))
 values_are c =
-    let x = c.args in
     elim c.if-q-eq8.branch [
-      | then-q-eq8 v ↦ subst
-          (λ (f : ℕ). c.if-q-eq8.values ≡ lanes (λ s. value (field_of f) x.q (λ j. get_or x.rows.now (16 * j + x.t) 0) (entry x.ys.now s)))
-          (sym v.if-q-eq8.true) (v.values-is ∙ v.evaluate_long-values.ensures)
-      | else-q-eq8 v ↦ v.values-is ∙ v.evaluate_short-values.ensures
+      | then-q-eq8 v ↦ v.values-is ∙ v.evaluate-values.ensures
+      | else-q-eq8 v ↦ v.values-is ∙ v.evaluate-values-else-q-eq8.ensures
     ]
 
 pub returns : goal.returns

@@ -9,6 +9,3 @@ use Rattle.code.proofs.encoding.evaluate_columns.Given as goal
 abbrev pub invariant-loop-t : goal.invariant-loop-t
 invariant-loop-t l =
     (l.t ≤ length l.columns) × (l.at ≡ l.q * l.t) × (length l.word ≡ length l.initial.word) × Blocks l.q (column_value l.q l.columns l.rows) l.word l.t
-
-abbrev pub decreases-loop-t : goal.decreases-loop-t
-decreases-loop-t l = length l.columns - l.t

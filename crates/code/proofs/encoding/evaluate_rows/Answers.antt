@@ -1,8 +1,7 @@
 -- `code::encoding::evaluate_rows` meets its contract: each turn writes the row of one power of y.
 -- Assumes nothing.
-use mathlib.Core.Path.{◌≡◌, refl, sym, ◌∙◌, subst}
-use Prim.Native.Nat.{ℕ, ◌+◌, ◌-◌, ◌*◌, ◌≤◌}
-use native.Mathlib.Nat.{mul-le-mul_left}
+use mathlib.Core.Path.{◌≡◌, refl, ◌∙◌}
+use Prim.Native.Nat.{◌+◌, ◌-◌, ◌*◌, ◌≤◌}
 use native.Mathlib.Omega.{arith}
 use borrow.Rule.Slice.PartMut.{same_len_mid}
 use lib.ListN.{length, get_or}
@@ -10,7 +9,6 @@ use Rattle.field.proofs.Fields.{field_of}
 use Rattle.poly.specs.Inner.Polynomials.{value}
 use Rattle.poly.specs.Inner.Linear.{entry}
 use Rattle.poly.specs.Inner.Lanes.{lanes}
-use Rattle.poly.specs.Inner.Ranges.{Below}
 use Rattle.poly.proofs.Blocks.{block_start, block_fits}
 use Rattle.code.proofs.Stages.{places_at, places_below, rows_turn}
 use Rattle.code.proofs.encoding.evaluate_rows.Goals as goal
@@ -27,38 +25,20 @@ row_is : (c : goal.Joined-q-eq8) → let x = c.args in
     c.if-q-eq8.row ≡ lanes (λ t. value (field_of x.q) c.terms-k.result (λ i. get_or x.grid.now (x.q * i + c.loop-j.j) 0)
     (entry c.copy.new.dst t))
 row_is c =
-    let x = c.args in
-    let k = c.terms-k.result in
-    let j = c.loop-j.j in
-    let places = c.copy.new.dst in
     elim c.if-q-eq8.branch [
-      | then-q-eq8 v ↦ subst (λ (f : ℕ). c.if-q-eq8.row ≡ lanes (λ t. value (field_of f) k (λ i. get_or x.grid.now (x.q * i + j) 0) (entry places t)))
-          (sym v.if-q-eq8.true) (v.row-is ∙ v.evaluate_long-row.ensures)
-      | else-q-eq8 v ↦ v.row-is ∙ v.evaluate_short-row.ensures
+      | then-q-eq8 v ↦ v.row-is ∙ v.evaluate-row.ensures
+      | else-q-eq8 v ↦ v.row-is ∙ v.evaluate-row-else-q-eq8.ensures
     ]
 
-pub evaluate_long-row-requires : goal.evaluate_long-row-requires
-evaluate_long-row-requires c =
+pub evaluate-row-requires-clause-below : goal.evaluate-row-requires-clause-below
+evaluate-row-requires-clause-below c =
     let h = c.requires.staged.0 in
-    let e = c.terms-k.ensures in
-    let copy = c.copy in
-    let small = places_below c.args.q c.args.columns.now h.few _ copy.ensures h.columns_below in record {
-      below = subst (λ (f : ℕ). Below (field_of f).size c.args.grid.now × Below (field_of f).size copy.new.dst) c.if-q-eq8.true
-          (h.symbols, small);
-      le_count = (e.some, c.loop-j-test.true, omega (arith, c.requires.le_n.1, mul-le-mul_left c.args.q e.within));
-    }
+    (h.symbols, places_below c.args.q c.args.columns.now h.few _ c.copy.ensures h.columns_below)
 
-pub evaluate_short-row-requires : goal.evaluate_short-row-requires
-evaluate_short-row-requires c =
+pub evaluate-row-requires-else-q-eq8-clause-below : goal.evaluate-row-requires-else-q-eq8-clause-below
+evaluate-row-requires-else-q-eq8-clause-below c =
     let h = c.requires.staged.0 in
-    let e = c.terms-k.ensures in record {
-      below = (
-        h.symbols,
-        places_below c.args.q c.args.columns.now h.few _ c.copy.ensures h.columns_below,
-        c.if-q-eq8.false,
-      );
-      le_count = (e.some, c.loop-j-test.true, omega (arith, c.requires.le_n.1, mul-le-mul_left c.args.q e.within));
-    }
+    (h.symbols, places_below c.args.q c.args.columns.now h.few _ c.copy.ensures h.columns_below)
 
 pub loop-j-preserved : goal.loop-j-preserved
 loop-j-preserved c =

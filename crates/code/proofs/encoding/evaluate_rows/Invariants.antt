@@ -8,6 +8,3 @@ use Rattle.code.proofs.encoding.evaluate_rows.Given as goal
 abbrev pub invariant-loop-j : goal.invariant-loop-j
 invariant-loop-j l =
     (l.at ≡ 16 * l.j) × (length l.rows ≡ length l.initial.rows) × Rowed l.q l.columns l.n l.grid l.rows l.j
-
-abbrev pub decreases-loop-j : goal.decreases-loop-j
-decreases-loop-j l = l.q - l.j

@@ -9,6 +9,3 @@ use Rattle.code.proofs.grid.gather.Given as goal
 abbrev pub invariant-loop-n : goal.invariant-loop-n
 invariant-loop-n l =
     (l.n ≤ length l.initial.message) × (length l.message ≡ length l.initial.message) × (l.message ≡ writes l.initial.message l.n (listed (entries_of l.q l.m) l.grid))
-
-abbrev pub decreases-loop-n : goal.decreases-loop-n
-decreases-loop-n l = length l.message - l.n

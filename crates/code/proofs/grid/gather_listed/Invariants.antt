@@ -8,6 +8,3 @@ use Rattle.code.proofs.grid.gather_listed.Given as goal
 
 abbrev pub invariant-loop-n : goal.invariant-loop-n
 invariant-loop-n l = (l.n ≤ length l.entries) × (l.out ≡ writes l.initial.out l.n (listed l.entries l.grid))
-
-abbrev pub decreases-loop-n : goal.decreases-loop-n
-decreases-loop-n l = length l.entries - l.n

@@ -8,6 +8,3 @@ use Rattle.code.proofs.grid.order_at_most.Given as goal
 
 abbrev pub invariant-loop-e : goal.invariant-loop-e
 invariant-loop-e l = order_at_most l.q l.m l.e l.grid ≡ true
-
-abbrev pub decreases-loop-e : goal.decreases-loop-e
-decreases-loop-e l = length l.grid - l.e

@@ -8,6 +8,3 @@ use Rattle.code.proofs.grid.scatter.Given as goal
 
 abbrev pub invariant-loop-n : goal.invariant-loop-n
 invariant-loop-n l = (l.n ≤ length l.message) × (length l.grid ≡ length l.initial.grid) × (l.grid ≡ laid (entries_of l.q l.m) l.message l.initial.grid l.n)
-
-abbrev pub decreases-loop-n : goal.decreases-loop-n
-decreases-loop-n l = length l.message - l.n

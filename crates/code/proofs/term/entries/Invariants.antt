@@ -8,6 +8,3 @@ use Rattle.code.proofs.term.entries.Given as goal
 
 abbrev pub invariant-loop-n : goal.invariant-loop-n
 invariant-loop-n l = (l.n ≤ l.k) × (l.list ≡ writes l.initial.list l.n (λ i. get_or (entries_of l.q l.m) i 0))
-
-abbrev pub decreases-loop-n : goal.decreases-loop-n
-decreases-loop-n l = l.k - l.n

@@ -8,6 +8,3 @@ use Rattle.code.proofs.unencoding.interpolate_columns.Given as goal
 abbrev pub invariant-loop-t : goal.invariant-loop-t
 invariant-loop-t l =
     (length l.work ≡ length l.initial.work) × (l.at ≡ l.q * l.t) × (l.row ≡ 16 * l.t) × InterpolatedSoFar l.q l.columns l.word l.work l.t
-
-abbrev pub decreases-loop-t : goal.decreases-loop-t
-decreases-loop-t l = length l.columns - l.t

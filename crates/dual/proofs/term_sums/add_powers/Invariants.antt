@@ -7,6 +7,3 @@ use Rattle.dual.proofs.term_sums.add_powers.Given as goal
 
 abbrev pub invariant-loop-j : goal.invariant-loop-j
 invariant-loop-j l = (l.j ≤ l.q) × (l.at ≡ 16 * l.j) × Adding (field_of l.q) l.places l.initial.v l.initial.rows l.rows l.v l.j
-
-abbrev pub decreases-loop-j : goal.decreases-loop-j
-decreases-loop-j l = l.q - l.j

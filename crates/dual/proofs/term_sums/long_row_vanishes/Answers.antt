@@ -42,31 +42,31 @@ returns-then-sum_of_four-ne0 c =
     let x = c.args in
     row_fails 8 x.m x.j _ _ c.loop-w.w c.loop-w.invariant.1 _ (sum_is (goal.at.returns-then-sum_of_four-ne0 c).After-sum_of_four) (omega arith) c.if-sum_of_four-ne0.true
 
-pub multiply_long-a-requires : goal.multiply_long-a-requires
-multiply_long-a-requires c =
-    quarter_below _ _ _ _ _ _ _ c.loop-w.invariant.1.kept.0 (small (goal.at.multiply_long-a-requires c).At-loop-w)
+pub multiply_in-a-requires-clause-symbols : goal.multiply_in-a-requires-clause-symbols
+multiply_in-a-requires-clause-symbols c =
+    quarter_below _ _ _ _ _ _ _ c.loop-w.invariant.1.kept.0 (small (goal.at.multiply_in-a-requires-clause-symbols c).At-loop-w)
 
-pub multiply_long-b-requires : goal.multiply_long-b-requires
-multiply_long-b-requires c =
-    quarter_below _ _ _ _ _ _ _ c.loop-w.invariant.1.kept.1 (small (goal.at.multiply_long-b-requires c).At-loop-w)
+pub multiply_in-b-requires-clause-symbols : goal.multiply_in-b-requires-clause-symbols
+multiply_in-b-requires-clause-symbols c =
+    quarter_below _ _ _ _ _ _ _ c.loop-w.invariant.1.kept.1 (small (goal.at.multiply_in-b-requires-clause-symbols c).At-loop-w)
 
-pub multiply_long-c-requires : goal.multiply_long-c-requires
-multiply_long-c-requires c =
-    quarter_below _ _ _ _ _ _ _ c.loop-w.invariant.1.kept.2 (small (goal.at.multiply_long-c-requires c).At-loop-w)
+pub multiply_in-c-requires-clause-symbols : goal.multiply_in-c-requires-clause-symbols
+multiply_in-c-requires-clause-symbols c =
+    quarter_below _ _ _ _ _ _ _ c.loop-w.invariant.1.kept.2 (small (goal.at.multiply_in-c-requires-clause-symbols c).At-loop-w)
 
-pub multiply_long-d-requires : goal.multiply_long-d-requires
-multiply_long-d-requires c =
-    quarter_below _ _ _ _ _ _ _ c.loop-w.invariant.1.kept.3 (small (goal.at.multiply_long-d-requires c).At-loop-w)
+pub multiply_in-d-requires-clause-symbols : goal.multiply_in-d-requires-clause-symbols
+multiply_in-d-requires-clause-symbols c =
+    quarter_below _ _ _ _ _ _ _ c.loop-w.invariant.1.kept.3 (small (goal.at.multiply_in-d-requires-clause-symbols c).At-loop-w)
 
 pub loop-w-preserved : goal.loop-w-preserved
 loop-w-preserved c =
     let h = c.loop-w.invariant.1 in (
       omega (arith, c.loop-w-test.true, c.requires.below.3),
       row_more 8 c.args.m c.args.j _ _ c.loop-w.w h _ (sum_is (goal.at.loop-w-preserved c).After-sum_of_four) c.if-sum_of_four-ne0.false _ (
-        quarter_more _ _ _ _ _ _ _ h.kept.0 _ c.multiply_long-a.ensures,
-        quarter_more _ _ _ _ _ _ _ h.kept.1 _ c.multiply_long-b.ensures,
-        quarter_more _ _ _ _ _ _ _ h.kept.2 _ c.multiply_long-c.ensures,
-        quarter_more _ _ _ _ _ _ _ h.kept.3 _ c.multiply_long-d.ensures,
+        quarter_more _ _ _ _ _ _ _ h.kept.0 _ c.multiply_in-a.ensures,
+        quarter_more _ _ _ _ _ _ _ h.kept.1 _ c.multiply_in-b.ensures,
+        quarter_more _ _ _ _ _ _ _ h.kept.2 _ c.multiply_in-c.ensures,
+        quarter_more _ _ _ _ _ _ _ h.kept.3 _ c.multiply_in-d.ensures,
       ),
     )
 

@@ -11,6 +11,3 @@ sums columns rows i j = sum_by_power_of_x 64 8 columns i (long_entry rows j)
 
 abbrev pub invariant-loop-j : goal.invariant-loop-j
 invariant-loop-j l = (l.j ≤ 8) × RowsBelow 8 l.m (sums l.columns l.rows) l.j
-
-abbrev pub decreases-loop-j : goal.decreases-loop-j
-decreases-loop-j l = 8 - l.j

@@ -48,12 +48,15 @@ returns-then-sum-ne0 c =
     (lanes_sum x.q x.m x.j x.places.now x.row l.v l.w l.invariant.1 u.result u.ensures)
     (omega (arith, c.loop-w-test.true)) (λ e. c.if-sum-ne0.true e)
 
-pub multiply_short-v-requires : goal.multiply_short-v-requires
-multiply_short-v-requires c =
+pub multiply_in-v-requires : goal.multiply_in-v-requires
+multiply_in-v-requires c =
     let x = c.args in
     let l = c.loop-w in
     let h = l.invariant.1 in
-    (c.requires.1, raised_below (field_of x.q) x.places.now x.row l.v h.i h.kept, short_not_long x.q c.requires.0)
+    record {
+      blocks = short_not_long x.q c.requires.0;
+      symbols = (c.requires.1, raised_below (field_of x.q) x.places.now x.row l.v h.i h.kept);
+    }
 
 pub loop-w-preserved : goal.loop-w-preserved
 loop-w-preserved c =
@@ -64,7 +67,7 @@ loop-w-preserved c =
     let F = field_of x.q in (
       omega (arith, c.loop-w-test.true),
       row_more x.q x.m x.j _ _ l.w h u.result (lanes_sum x.q x.m x.j x.places.now x.row l.v l.w h u.result u.ensures) (omega (arith, c.if-sum-ne0.false)) _
-          (raised_more F x.places.now x.row l.v h.i h.kept _ c.multiply_short-v.ensures),
+          (raised_more F x.places.now x.row l.v h.i h.kept _ c.multiply_in-v.ensures),
     )
 
 pub returns : goal.returns

@@ -8,6 +8,3 @@ use Rattle.dual.proofs.term_sums.rows_vanish.Given as goal
 abbrev pub invariant-loop-j : goal.invariant-loop-j
 invariant-loop-j l =
     (l.j ≤ l.q) × RowsBelow l.q l.m (λ i j. sum_by_power_of_x 16 l.q l.columns i (λ t. get_or l.rows (16 * j + t) 0)) l.j
-
-abbrev pub decreases-loop-j : goal.decreases-loop-j
-decreases-loop-j l = l.q - l.j

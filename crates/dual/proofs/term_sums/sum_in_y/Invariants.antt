@@ -7,6 +7,3 @@ use Rattle.dual.proofs.term_sums.sum_in_y.Given as goal
 
 abbrev pub invariant-loop-s : goal.invariant-loop-s
 invariant-loop-s l = (l.s ≤ l.q) × (length l.rows ≡ length l.initial.rows) × SummedInY l.s l.q l.columns l.word l.rows
-
-abbrev pub decreases-loop-s : goal.decreases-loop-s
-decreases-loop-s l = l.q - l.s

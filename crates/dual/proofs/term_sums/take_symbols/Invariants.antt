@@ -8,6 +8,3 @@ use Rattle.dual.proofs.term_sums.take_symbols.Given as goal
 abbrev pub invariant-loop-t : goal.invariant-loop-t
 invariant-loop-t l =
     (l.t ≤ l.c) × (length l.r ≡ 16) × (l.r ≡ writes (replicate 16 0) l.t (λ tt. get_or l.word (l.q * tt + l.s) 0))
-
-abbrev pub decreases-loop-t : goal.decreases-loop-t
-decreases-loop-t l = l.c - l.t

@@ -8,6 +8,3 @@ use Rattle.dual.proofs.term_sums.take_ys.Given as goal
 abbrev pub invariant-loop-t : goal.invariant-loop-t
 invariant-loop-t l =
     (l.t ≤ length l.columns) × (length l.r ≡ 16) × (l.r ≡ writes (replicate 16 0) l.t (λ tt. get_or l.all (l.q * get_or l.columns tt 0 + l.s) 0))
-
-abbrev pub decreases-loop-t : goal.decreases-loop-t
-decreases-loop-t l = length l.columns - l.t

@@ -4,7 +4,7 @@ use mathlib.Core.Path.{sym, ◌∙◌}
 use Rattle.field.proofs.Entries.{pair_lt}
 use Rattle.field.proofs.entry.product.Goals as goal
 
-pub times-s-requires : goal.times-s-requires
-times-s-requires c =
+pub times-requires : goal.times-requires
+times-requires c =
     let x = c.args in
-    pair_lt x.q x.a x.b (sym c.check-o.ensures ∙ c.in-Done.is)
+    pair_lt x.q x.a x.b (sym c.check.ensures ∙ c.in_ok-check.was)

@@ -1,6 +1,6 @@
 -- `job::Job::carry_on` meets its contract: a job that passes the test is brought on; else it is handed back as it came.
 -- Assumes nothing.
-use mathlib.Core.Bool.{false≢true}
+use mathlib.Core.Bool.{Bool, true, false, not, false≢true}
 use mathlib.Core.List.{List}
 use mathlib.Core.Logic.{inl}
 use mathlib.Core.Path.{◌≡◌, refl, sym, ap, ◌∙◌}
@@ -15,10 +15,14 @@ use Rattle.job.specs.Task.{stored_word, task_of}
 use Rattle.job.specs.Inner.Bringing.{Tested}
 use Rattle.job.proofs.Openings.{open_curve}
 use Rattle.job.proofs.Calls.{carried_room}
-use Rattle.job.proofs.Carrying.{Given, Left, sound_tested, places_fit, candidate_fits, whole_fits, asked, short, next_fits, rows_fit, copy_fits, copies, sound_after, gives_message, gives_other, writes_message}
+use Rattle.job.proofs.Carrying.{Given, Left, sound_tested, places_fit, candidate_fits, whole_fits, asked, short, next_fits, rows_fit, copy_fits, copies, copies_long, sound_by, gives_message, gives_other, writes_message}
 use Rattle.job.proofs.Tellings.{not_refused}
 use Rattle.job.proofs.Job.carry_on.Goals as goal
 use Rattle.job.proofs.Job.carry_on.Goals.{Start, Then-usable, After-at-curve, After-bring-r}
+
+opposite : (a b : Bool) → a ≡ not b → b ≡ not a
+opposite a true e = sym (ap not e)
+opposite a false e = sym (ap not e)
 
 -- the lengths of a job's arrays
 places_long : (c : goal.Start) → length c.args.self.places ≡ 64
@@ -135,13 +139,23 @@ tell-said-requires c =
           b.bring-r.result (left b),
     )
 
-pub copy-requires : goal.copy-requires
-copy-requires c =
-    let b = (goal.at.copy-requires c).After-bring-r in
-    let a = at b in (
-      copy_fits (job a) (k a) (n a) (given a) (budget b) (work b) (candidate b) (whole b) b.bring-r.result (left b),
-      omega (arith, c.if-message-k.true),
-    )
+pub slice_bounds-candidate-end-then-is_message : goal.slice_bounds-candidate-end-then-is_message
+slice_bounds-candidate-end-then-is_message c =
+    let b = (goal.at.slice_bounds-candidate-end-then-is_message c).After-bring-r in
+    let a = at b in
+    copy_fits (job a) (k a) (n a) (given a) (budget b) (work b) (candidate b) (whole b) b.bring-r.result (left b)
+
+pub slice_bounds-copy_from_slice-end : goal.slice_bounds-copy_from_slice-end
+slice_bounds-copy_from_slice-end c =
+    let b = (goal.at.slice_bounds-copy_from_slice-end c).After-bring-r in
+    let a = at b in
+    sym (copies_long (job a) (k a) (n a) (given a) (budget b) (work b) (candidate b) (whole b) b.bring-r.result (left b))
+
+pub copy_from_slice-requires : goal.copy_from_slice-requires
+copy_from_slice-requires c =
+    let b = (goal.at.copy_from_slice-requires c).After-bring-r in
+    let a = at b in
+    c.if-message-k.true ∙ sym (copies_long (job a) (k a) (n a) (given a) (budget b) (work b) (candidate b) (whole b) b.bring-r.result (left b))
 
 pub returns-then-is_message : goal.returns-then-is_message
 returns-then-is_message c =
@@ -151,16 +165,16 @@ returns-then-is_message c =
     let d = c.is_message.ensures.0 c.if-is_message.true in
     let room = c.if-message-k.true in
     let slice = c.args.message.now in
-    let out = c.copy.new.dst in
-    let copied = c.copy.ensures
-    ∙ copies (job a) (k a) (n a) (given a) (budget b) (work b) (candidate b) (whole b) b.bring-r.result (left b) slice room in
+    let out = c.copy_from_slice.new.self in
+    let copied = c.copy_from_slice.ensures.after
+    ∙ copies (job a) (k a) (n a) (given a) (budget b) (work b) (candidate b) (whole b) b.bring-r.result (left b) in
     record {
       written_only_with_message =
           writes_message (job a) (k a) (n a) (given a) (budget b) (work b) (candidate b) (whole b) b.bring-r.result (left b) said.result slice out
           said.ensures d copied;
       job_value = λ f. absurd (not_refused (k a) (n a) b.bring-r.result (sym said.ensures ∙ f));
       sound = λ h. (
-        sound_after (job a) (k a) (n a) (given a) (budget b) (work b) (candidate b) (whole b) b.bring-r.result (left b) h,
+        sound_by (job a) (k a) (n a) (given a) (budget b) (work b) (candidate b) (whole b) b.bring-r.result (left b) h _ _ c.eq.ensures (opposite _ _ c.is_none.ensures),
         gives_message (job a) (k a) (n a) (given a) (budget b) (work b) (candidate b) (whole b) b.bring-r.result (left b) h slice room
             said.result out said.ensures d copied,
       );
@@ -177,7 +191,7 @@ returns-else-is_message c =
       written_only_with_message = inl refl;
       job_value = λ f. absurd (not_refused (k a) (n a) b.bring-r.result (sym said.ensures ∙ f));
       sound = λ h. (
-        sound_after (job a) (k a) (n a) (given a) (budget b) (work b) (candidate b) (whole b) b.bring-r.result (left b) h,
+        sound_by (job a) (k a) (n a) (given a) (budget b) (work b) (candidate b) (whole b) b.bring-r.result (left b) h _ _ c.eq.ensures (opposite _ _ c.is_none.ensures),
         gives_other (job a) (k a) (n a) (given a) (budget b) (work b) (candidate b) (whole b) b.bring-r.result (left b) h slice room
             said.result said.ensures
             (λ f. false≢true (sym c.if-is_message.false ∙ c.is_message.ensures.1 f)),

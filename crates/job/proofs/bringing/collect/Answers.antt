@@ -53,9 +53,9 @@ returns c =
     let after = r.new.work in record {
       counted = r.ensures.counted;
       collects = subst (λ (n : ℕ). Collects x.q (columns_of x.q x.series) x.m x.word.now x.budget x.work.now x.next n after r.result.next
-          r.result.rank r.result.brought r.result.clash) (rows (goal.at.returns c).After-rank-rows)
+          r.result.rank r.result.brought) (rows (goal.at.returns c).After-rank-rows)
           (subst (λ (l : List ℕ). Collects x.q l x.m x.word.now x.budget x.work.now x.next
           c.rank-rows.result after
-          r.result.next r.result.rank r.result.brought r.result.clash) (columns (goal.at.returns c).After-rank-rows)
+          r.result.next r.result.rank r.result.brought) (columns (goal.at.returns c).After-rank-rows)
           r.ensures.collects);
     }

@@ -1,16 +1,21 @@
--- `job::work::rank` meets its contract: n of the rows before p are there.
+-- `job::work::rank` meets its contract: the rows below k that have 1 at their own unknown are counted.
 -- Assumes nothing.
-use mathlib.Core.Path.{sym, ◌∙◌}
+use mathlib.Core.Path.{◌∙◌}
+use Prim.Native.Nat.{◌+◌, ◌*◌}
 use native.Mathlib.Omega.{arith}
-use Rattle.job.proofs.Formed.{rank_none, rank_there, rank_absent}
+use borrow.Author.Rules.{rules}
+use borrow.Author.Tests.{tests}
+use lib.Dec.{eqb}
+use Rattle.std.proofs.lemmas.Iterator.{YieldsList-from_range}
+use Rattle.std.proofs.lemmas.Iterator.Consumers.{YieldsList-from_filter, count_from_yields_List}
+use Rattle.poly.specs.Inner.Linear.{entry}
+use Rattle.job.proofs.Formed.{rank_counted}
 use Rattle.job.proofs.work.rank.Goals as goal
-use Rattle.job.proofs.work.rank.Goals.{else-work-at-eq1, then-work-at-eq1}
 
-pub loop-p-init : goal.loop-p-init
-loop-p-init c = (omega arith, omega arith, sym (rank_none _))
-
-pub loop-p-preserved : goal.loop-p-preserved
-loop-p-preserved c =
+pub returns : goal.returns
+returns c =
     let x = c.args in
-    let l = c.loop-p in
-    elim c.if-work-at-eq1.branch [ then-work-at-eq1 v ↦ (omega arith, omega (arith, v.n-is), v.n-is ∙ rank_there x.k x.work.now l.p l.n l.invariant.2 v.if-work-at-eq1.true) | else-work-at-eq1 v ↦ (omega arith, omega (arith, v.n-is), v.n-is ∙ rank_absent x.k x.work.now l.p l.n l.invariant.2 v.if-work-at-eq1.false) ]
+    count_from_yields_List c.filter.result _ c.count.ensures.ran
+    (YieldsList-from_filter _ (λ p. eqb (entry x.work.now (p * 64 + p)) 1) (YieldsList-from_range 0 x.k x.k c.filter.ensures.source (omega arith)) c.filter.ensures.closure
+    (λ p b q k. search (rules, tests)))
+    ∙ rank_counted x.k x.work.now

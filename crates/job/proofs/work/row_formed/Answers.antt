@@ -1,24 +1,22 @@
--- `job::work::row_formed` meets its contract: the row's own entry is 1, and those after it and before j are 0.
+-- `job::work::row_formed` meets its contract: the row's own entry decides, and where it is 1, those after it.
 -- Assumes nothing.
-use mathlib.Core.Path.{sym}
+use mathlib.Core.Path.{◌≡◌, sym}
 use native.Mathlib.Omega.{arith}
-use Rattle.job.proofs.Formed.{row_large, row_absent, row_not, row_all}
+use borrow.Author.Rules.{rules}
+use borrow.Author.Tests.{tests}
+use Rattle.std.proofs.lemmas.Iterator.{cases_from_all, YieldsList-from_slice}
+use Rattle.job.proofs.Formed.{row_large, row_absent, row_decided}
 use Rattle.job.proofs.work.row_formed.Goals as goal
 
-pub returns-then-own-gt1 : goal.returns-then-own-gt1
-returns-then-own-gt1 c = let x = c.args in sym (row_large 64 x.k x.work.now x.p c.if-own-gt1.true)
+pub returns-in-0 : goal.returns-in-0
+returns-in-0 c = let x = c.args in sym (row_absent 64 x.k x.work.now x.p c.in-0.is)
 
-pub returns-then-own-eq0 : goal.returns-then-own-eq0
-returns-then-own-eq0 c = let x = c.args in sym (row_absent 64 x.k x.work.now x.p c.if-own-eq0.true)
-
-pub returns-then-work-base-ne0 : goal.returns-then-work-base-ne0
-returns-then-work-base-ne0 c =
+pub returns-in-1 : goal.returns-in-1
+returns-in-1 c =
     let x = c.args in
-    let l = c.loop-j in
-    sym (row_not 64 x.k x.work.now x.p l.j l.invariant.0 (omega arith) l.invariant.2 c.if-work-base-ne0.true)
+    row_decided 64 x.k x.work.now x.p c.requires.0 (omega (arith, c.requires)) c.in-1.is c.all.result
+    (cases_from_all _ _ _ (λ y. y ≡ 0) (λ y. y ≡ 0 → ⊥) c.all.ensures.ran (YieldsList-from_slice _ (cc)) (λ y q k. search (rules, tests))
+    (λ y q k. search (rules, tests)))
 
-pub returns : goal.returns
-returns c =
-    let x = c.args in
-    let l = c.loop-j in
-    sym (row_all 64 x.k x.work.now x.p l.invariant.2 (λ j a b. l.invariant.3 j a (omega (arith, c.loop-j-test.false))))
+pub returns-in_default : goal.returns-in_default
+returns-in_default c = let x = c.args in sym (row_large 64 x.k x.work.now x.p (λ e. omega arith) (λ e. omega arith))

@@ -1,18 +1,16 @@
--- `job::work::rows` meets its contract: the rows before p are formed.
+-- `job::work::rows` meets its contract: each row below k is formed.
 -- Assumes nothing.
-use mathlib.Core.Path.{sym, ◌∙◌}
+use mathlib.Core.Path.{refl, ◌∙◌}
 use native.Mathlib.Omega.{arith}
-use Rattle.job.proofs.Formed.{rows_not, rows_all}
+use borrow.Author.Rules.{rules}
+use Rattle.std.proofs.lemmas.Iterator.{YieldsList-from_range}
+use Rattle.std.proofs.lemmas.Iterator.Search.{all_from_yields_List}
+use Rattle.job.specs.Inner.Formed.{row_formed}
+use Rattle.job.proofs.Formed.{every_below}
 use Rattle.job.proofs.work.rows.Goals as goal
-
-pub returns-then-not-row_formed : goal.returns-then-not-row_formed
-returns-then-not-row_formed c =
-    let x = c.args in
-    sym (rows_not 64 x.k x.work.now c.loop-p.p (omega arith) (sym c.row_formed.ensures
-    ∙ c.if-not-row_formed.true))
 
 pub returns : goal.returns
 returns c =
     let x = c.args in
-    let l = c.loop-p in
-    sym (rows_all 64 x.k x.work.now (λ i b. l.invariant.1 i (omega (arith, c.loop-p-test.false))))
+    all_from_yields_List (row_formed 64 x.k x.work.now) _ _ _ c.all.ensures.ran (YieldsList-from_range 0 x.k x.k refl (omega arith)) (λ y b q k. search rules)
+    ∙ every_below (row_formed 64 x.k x.work.now) x.k

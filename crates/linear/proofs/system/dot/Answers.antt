@@ -13,4 +13,4 @@ loop-j-init c = (omega arith, rw dot_none (sym (plus_zero _)))
 pub loop-j-preserved : goal.loop-j-preserved
 loop-j-preserved c =
     let l = c.loop-j in
-    (omega arith, is_plus l.r c.times_short-r.result ∙ rw (add-one, dot_suc, l.invariant.1, c.times_short-r.ensures, plus_assoc))
+    (omega arith, is_plus l.r c.times-r.result ∙ rw (add-one, dot_suc, l.invariant.1, c.times-r.ensures, plus_assoc))

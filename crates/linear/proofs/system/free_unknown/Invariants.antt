@@ -1,11 +1,8 @@
 -- `linear::system::free_unknown` meets its contract: the rows before p are present, turn by turn.
-use Prim.Native.Nat.{ℕ, ◌-◌, ◌≤◌, ◌<◌}
+use Prim.Native.Nat.{ℕ, ◌<◌}
 use lib.Dec.{T}
 use Rattle.linear.specs.Inner.Systems.{flat}
 use Rattle.linear.proofs.system.free_unknown.Given as goal
 
 abbrev pub invariant-loop-p : goal.invariant-loop-p
-invariant-loop-p l = (l.p ≤ l.k) × ((i : ℕ) → i < l.p → T ((flat l.stride l.k l.work).present i))
-
-abbrev pub decreases-loop-p : goal.decreases-loop-p
-decreases-loop-p l = l.k - l.p
+invariant-loop-p l = (i : ℕ) → i < l.p → T ((flat l.stride l.k l.work).present i)

@@ -3,8 +3,5 @@ use Rattle.field.proofs.Fields.{field_of}
 use Rattle.linear.specs.Inner.Systems.{flat, Reducing}
 use Rattle.linear.proofs.system.reduce.Given as goal
 
-abbrev pub invariant-loop-p : goal.invariant-loop-p
-invariant-loop-p l = Reducing (field_of l.q) l.k (flat l.stride l.k l.work) l.initial.row l.row l.p
-
-abbrev pub decreases-loop-p : goal.decreases-loop-p
-decreases-loop-p l = l.p
+abbrev pub invariant-loop-i : goal.invariant-loop-i
+invariant-loop-i l = Reducing (field_of l.q) l.k (flat l.stride l.k l.work) l.initial.row l.row l.i

@@ -2,7 +2,7 @@
 -- Assumes nothing.
 use mathlib.Core.List.{List}
 use mathlib.Core.Path.{◌≡◌, ap, ap₂, ◌∙◌, subst}
-use Prim.Native.Nat.{ℕ, ◌+◌, ◌≤◌, ◌<◌}
+use Prim.Native.Nat.{ℕ, ◌+◌, ◌*◌, ◌≤◌, ◌<◌}
 use native.Mathlib.Omega.{arith}
 use lib.ListN.{length, get_or}
 use Rattle.field.specs.Plus.{plus}
@@ -11,7 +11,7 @@ use Rattle.poly.specs.Inner.Linear.{entry}
 use Rattle.poly.proofs.Fillings.{Filled, filled_turn, filled_writes}
 use Rattle.poly.proofs.LaneLaws.{length_lanes, lanes_at}
 use Rattle.linear.proofs.vectors.add_sum.Goals as goal
-use Rattle.linear.proofs.vectors.add_sum.Goals.{In-loop-j}
+use Rattle.linear.proofs.vectors.add_sum.Goals.{In-loop-i}
 
 -- what is written
 abbrev sums : List ℕ → List ℕ → List ℕ → ℕ → ℕ
@@ -30,36 +30,36 @@ sum_at low top v₀ v j h old sum a b is-old is_sum is-a is_b t l =
     ∙ ap₂ plus (ap (λ (x : List ℕ). get_or x t 0) is-a ∙ lanes_at _ t l) (ap (λ (x : List ℕ). get_or x t 0) is_b ∙ lanes_at _ t l))
 
 -- a block is within the lists
-fits : (c : goal.In-loop-j) → (c.loop-j.j + 16 ≤ length c.loop-j.v) × (c.loop-j.j + 16 ≤ length c.args.low.now)
-    × (c.loop-j.j + 16 ≤ length c.args.top.now) × (c.loop-j.j + 16 ≤ length c.args.v.now)
+fits : (c : goal.In-loop-i) → (16 * c.loop-i.i + 16 ≤ length c.loop-i.v) × (16 * c.loop-i.i + 16 ≤ length c.args.low.now)
+    × (16 * c.loop-i.i + 16 ≤ length c.args.top.now)
 fits c =
-    let l = c.loop-j in
-    let e : l.j + 16 ≤ length c.args.v.now = omega (arith, l.invariant.1.is_at, l.invariant.1.long, c.loop-j-test.true, c.requires.0) in
-    (omega (arith, l.invariant.1.long), omega (arith, c.requires.1), omega (arith, c.requires.2), e)
+    let l = c.loop-i in
+    let e : 16 * l.i + 16 ≤ length c.args.v.now = omega (arith, c.loop-i-test.true) in
+    (omega (arith, l.auto.v), omega (arith, c.requires.1), omega (arith, c.requires.2))
 
-pub loop-j-preserved : goal.loop-j-preserved
-loop-j-preserved c =
+pub loop-i-preserved : goal.loop-i-preserved
+loop-i-preserved c =
     let a = c.args in
-    let l = c.loop-j in
-    let f = fits (goal.at.loop-j-preserved c).In-loop-j in
+    let l = c.loop-i in
+    let j = 16 * l.i in
     let r = c.plus-new in
     let p = c.plus-sum in
     let old = c.take-old in
     let low = c.take-a in
-    let top = c.take-b in (
-      f.3,
-      filled_turn 0 _ a.v.now l.v l.j l.j l.invariant.1 (omega arith) f.0 _ _
-          (omega (arith, ap length r.ensures ∙ length_lanes _)) c.copy.ensures
-          (λ t k. ap (λ (x : List ℕ). get_or x t 0) r.ensures ∙ lanes_at _ t k
-          ∙ sum_at a.low.now a.top.now a.v.now l.v l.j l.invariant.1 old.result p.result low.result top.result
-          old.ensures p.ensures low.ensures top.ensures t k),
-    )
+    let top = c.take-b in
+    let next : 16 * (l.i + 1) ≡ j + 16 = omega arith in
+    rw next
+    (filled_turn 0 _ a.v.now l.v j j l.invariant (omega arith) (fits (goal.at.loop-i-preserved c).In-loop-i).0 _ _
+    (omega (arith, ap length r.ensures ∙ length_lanes _)) c.copy.ensures
+    (λ t k. ap (λ (x : List ℕ). get_or x t 0) r.ensures ∙ lanes_at _ t k
+    ∙ sum_at a.low.now a.top.now a.v.now l.v j l.invariant old.result p.result low.result top.result
+    old.ensures p.ensures low.ensures top.ensures t k))
 
 pub returns : goal.returns
 returns c =
     let a = c.args in
-    let l = c.loop-j in
+    let l = c.loop-i in
     let n = length a.v.now in
-    let e : l.j ≡ n = omega (arith, l.invariant.0, c.loop-j-test.false, l.invariant.1.long) in
+    let e : 16 * l.i ≡ n = omega (arith, l.auto.i-end, c.loop-i-test.false, c.requires.0) in
     filled_writes n _ a.v.now l.v (omega arith)
-    (subst (λ (x : ℕ). Filled 0 (sums a.low.now a.top.now a.v.now) a.v.now l.v x) e l.invariant.1)
+    (subst (λ (x : ℕ). Filled 0 (sums a.low.now a.top.now a.v.now) a.v.now l.v x) e l.invariant)

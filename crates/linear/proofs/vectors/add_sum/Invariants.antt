@@ -1,7 +1,6 @@
 -- `linear::vectors::add_sum` meets its contract: block by block.
 use mathlib.Core.List.{List}
-use Prim.Native.Nat.{ℕ, ◌-◌, ◌≤◌}
-use lib.ListN.{length}
+use Prim.Native.Nat.{ℕ, ◌*◌}
 use Rattle.field.specs.Plus.{plus}
 use Rattle.poly.specs.Inner.Linear.{entry}
 use Rattle.poly.proofs.Fillings.{Filled}
@@ -11,8 +10,5 @@ use Rattle.linear.proofs.vectors.add_sum.Given as goal
 abbrev sums : List ℕ → List ℕ → List ℕ → ℕ → ℕ
 sums low top v j = plus (entry v j) (plus (entry low j) (entry top j))
 
-abbrev pub invariant-loop-j : goal.invariant-loop-j
-invariant-loop-j l = (l.j ≤ length l.initial.v) × Filled 0 (sums l.low l.top l.initial.v) l.initial.v l.v l.j
-
-abbrev pub decreases-loop-j : goal.decreases-loop-j
-decreases-loop-j l = length l.initial.v - l.j
+abbrev pub invariant-loop-i : goal.invariant-loop-i
+invariant-loop-i l = Filled 0 (sums l.low l.top l.initial.v) l.initial.v l.v (16 * l.i)

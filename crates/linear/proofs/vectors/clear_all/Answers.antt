@@ -8,7 +8,6 @@ use Rattle.linear.proofs.vectors.clear_all.Goals as goal
 pub loop-k-preserved : goal.loop-k-preserved
 loop-k-preserved c =
     let l = c.loop-k in
-    let more = c.loop-k-test.true in
     cleared_turn (field_of c.args.q) c.args.n c.args.i (entry c.args.factors.now 1) c.args.count c.args.low.now
-    c.args.vectors.now c.requires.clearing.place c.requires.vectors_len.0 l.vectors l.k l.at l.invariant more
-    c.clear.new.w c.clear.ensures
+    c.args.vectors.now c.requires.clearing.place c.requires.vectors_len.0 l.vectors l.k l.auto.vectors l.invariant
+    c.loop-k-test.true c.clear.new.w c.clear.ensures

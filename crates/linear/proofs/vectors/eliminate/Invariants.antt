@@ -1,6 +1,4 @@
 -- `linear::vectors::eliminate` meets its contract. The invariant of its loop: the first t vectors were taken.
-use mathlib.Core.Path.{◌≡◌}
-use Prim.Native.Nat.{◌-◌}
 use lib.ListN.{length}
 use Rattle.field.specs.Inner.Halves.{half_of}
 use Rattle.field.proofs.Fields.{field_of}
@@ -10,9 +8,5 @@ use Rattle.linear.proofs.vectors.eliminate.Given as goal
 
 abbrev pub invariant-loop-t : goal.invariant-loop-t
 invariant-loop-t l =
-    ((length l.low ≡ length l.initial.low) × (length l.top ≡ length l.initial.top))
-    × (Table (field_of l.q) (length l.high) (half_of l.q) l.low × Table (field_of l.q) (length l.high) (half_of l.q) l.top)
-    × Eliminating (field_of l.q) l.count l.high l.initial.vectors l.vectors l.initial.grid l.grid l.rank l.t l.at
-
-abbrev pub decreases-loop-t : goal.decreases-loop-t
-decreases-loop-t l = l.count - l.t
+    (Table (field_of l.q) (length l.high) (half_of l.q) l.low × Table (field_of l.q) (length l.high) (half_of l.q) l.top)
+    × Eliminating (field_of l.q) l.count l.high l.initial.vectors l.vectors l.initial.grid l.grid l.rank l.t

@@ -1,13 +1,13 @@
 -- `linear::vectors::write_multiples` meets its contract. The invariant of its loop: the rows before 2·a, as far as they are asked for,
 -- are multiples of row 1.
 -- Assumes nothing.
-use mathlib.Core.Path.{refl, ap, ◌∙◌}
-use Prim.Native.Nat.{ℕ, ◌+◌, ◌*◌}
+use mathlib.Core.Path.{ap, ◌∙◌}
+use Prim.Native.Nat.{ℕ, ◌+◌, ◌*◌, ◌≤◌}
 use native.Mathlib.Omega.{arith}
 use lib.ListN.{length}
 use Rattle.field.specs.Inner.Halves.{half_of}
 use Rattle.field.proofs.Fields.{field_of}
-use Rattle.field.proofs.Halves.{half_lt, two_le_half}
+use Rattle.field.proofs.Halves.{half_even, half_lt}
 use Rattle.poly.specs.Inner.Linear.{entry}
 use Rattle.linear.proofs.PivotTables.{multiples_more, multiples_less, multiples_cong, table_doubled, Begun, begun_doubled, begun_alone}
 use Rattle.linear.proofs.vectors.write_multiples.Goals as goal
@@ -26,7 +26,7 @@ begun c =
 pub loop-a-init : goal.loop-a-init
 loop-a-init c =
     let b = begun (goal.at.loop-a-init c).Joined-half-gt2 in
-    (omega arith, omega (arith, two_le_half c.args.q, c.half-half.ensures), refl, b.formed, b.rows)
+    (b.formed, b.rows)
 
 pub loop-a-preserved : goal.loop-a-preserved
 loop-a-preserved c =
@@ -34,17 +34,13 @@ loop-a-preserved c =
     let l = c.loop-a in
     let d = c.double-in-loop-a in
     let F = field_of a.q in
-    let half = c.half-half.ensures in
-    let taken = c.loop-a-test.true in
-    let new = d.new.table in
-    let row : ℕ → ℕ = λ j. entry c.if-half-gt2.table (a.n + j) in (
-      omega arith,
-      omega (arith, taken),
-      d.auto.table ∙ l.invariant.2,
-      table_doubled F a.n (half_of a.q) l.a l.table new l.invariant.0 d.auto.table l.invariant.3 d.ensures,
-      λ m few most. multiples_less F a.n m (2 * (l.a + 1)) row new few
-          (multiples_more a.q a.n l.a row l.table new l.invariant.0 (omega (arith, taken, half, half_lt a.q))
-          (l.invariant.4 (2 * l.a) (omega arith) (omega (arith, taken, half))) d.ensures),
+    let row : ℕ → ℕ = λ j. entry c.if-half-gt2.table (a.n + j) in
+    let one : 1 ≤ l.a = omega (arith, l.auto.a) in
+    let within : 2 * l.a ≤ half_of a.q = omega (arith, c.loop-a-test.true, c.half-half.ensures) in (
+      table_doubled F a.n (half_of a.q) l.a l.table d.new.table one d.auto.table l.invariant.0 d.ensures,
+      λ m few most. multiples_less F a.n m (2 * (l.a + 1)) row d.new.table few
+          (multiples_more a.q a.n l.a row l.table d.new.table one (omega (arith, within, half_lt a.q))
+          (l.invariant.1 (2 * l.a) (omega arith) within) d.ensures),
     )
 
 pub returns : goal.returns
@@ -52,7 +48,7 @@ returns c =
     let a = c.args in
     let l = c.loop-a in
     let b = begun (goal.at.returns c).Joined-half-gt2 in record {
-      table = l.invariant.3;
+      table = l.invariant.0;
       multiples = multiples_cong (field_of a.q) a.n (half_of a.q) _ _ l.table b.first
-          (l.invariant.4 (half_of a.q) (omega (arith, c.loop-a-test.false, c.half-half.ensures)) (omega arith));
+          (l.invariant.1 (half_of a.q) (omega (arith, c.loop-a-test.false, c.half-half.ensures, half_even a.q)) (omega arith));
     }

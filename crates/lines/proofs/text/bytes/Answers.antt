@@ -1,16 +1,10 @@
 -- `text::bytes` meets its contract.
 -- Assumes nothing.
-use native.Mathlib.Omega.{arith}
-use lib.ListN.{length-set}
-use Rattle.lines.proofs.Texts.{text_turn}
+use mathlib.Core.Path.{refl}
+use Rattle.lines.proofs.Texts.{part_written}
 use Rattle.lines.proofs.text.bytes.Goals as goal
 
-pub loop-j-preserved : goal.loop-j-preserved
-loop-j-preserved c =
-    let l = c.loop-j in
-    let a = c.args in (
-      omega arith,
-      omega arith,
-      simp length-set l.invariant.2,
-      text_turn a.out.now a.text.now a.at l.out l.j l.end l.invariant.3 l.invariant.1 c.loop-j-test.true,
-    )
+pub returns : goal.returns
+returns c =
+    let a = c.args in
+    part_written a.out.now a.text.now a.at _ c.copy_from_slice.new.self refl c.requires c.copy_from_slice.ensures.after

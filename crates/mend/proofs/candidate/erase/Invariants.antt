@@ -8,6 +8,3 @@ use Rattle.mend.proofs.candidate.erase.Given as goal
 
 abbrev pub invariant-loop-p : goal.invariant-loop-p
 invariant-loop-p l = (l.p ≤ length l.word) × (length l.located ≡ length l.initial.located) × (l.located ≡ writes l.initial.located l.p (erased_at l.word l.initial.located))
-
-abbrev pub decreases-loop-p : goal.decreases-loop-p
-decreases-loop-p l = length l.word - l.p

@@ -6,6 +6,7 @@ use Prim.Native.Nat.{◌+◌, ◌≤◌}
 use native.Mathlib.Omega.{arith}
 use lib.Seq.{length-take-le}
 use Rattle.field.specs.declared.curve.Curve.{Curve}
+use Rattle.field.proofs.Outcomes.{ok_done}
 use Rattle.field.proofs.Curves.{short_curve}
 use Rattle.poly.proofs.Entries.{zeros}
 use Rattle.code.specs.Terms.{size}
@@ -43,20 +44,20 @@ located c b e =
     let x = c.args in
     subst (Located x.q x.series x.m x.word.now c.find.new.f) e c.find.ensures
 
-pub read_word-r-requires : goal.read_word-r-requires
-read_word-r-requires c =
+pub read_word-requires : goal.read_word-requires
+read_word-requires c =
     let x = c.args in (
       readable x.q x.series x.m x.word.now x.message.now (short_curve _ c.requires.0.curve) (omega (arith, c.requires.0.order))
           (word_accepted x.q x.series x.m x.word.now c.requires.0 x.message.now c.requires.2),
       c.requires.0.curve,
     )
 
-pub returns-in-Done : goal.returns-in-Done
-returns-in-Done c =
+pub returns-then-is_ok : goal.returns-then-is_ok
+returns-then-is_ok c =
     let x = c.args in
-    let u = c.read_word-r in
+    let u = c.read_word in
     unencoded_only x.q x.series x.m x.word.now c.requires.0 x.message.now u.new.message u.result c.requires.2 u.ensures
-    c.in-Done.is
+    (ok_done u.result (sym c.is_ok.ensures.value ∙ c.if-is_ok.true))
 
 pub slice_bounds-found-end : goal.slice_bounds-found-end
 slice_bounds-found-end c = room (goal.at.slice_bounds-found-end c).After-size-k

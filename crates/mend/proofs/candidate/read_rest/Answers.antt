@@ -1,12 +1,14 @@
 -- `mend::candidate::read_rest` meets its contract: the message is recovered from the word without the symbols where the locator is 0.
 -- Assumes nothing.
+use mathlib.Core.Bool.{Bool, true, false}
 use mathlib.Core.List.{List}
 use mathlib.Core.Path.{◌≡◌, sym, ap, ◌∙◌, subst}
 use Prim.Native.Nat.{ℕ, ◌≤◌}
 use native.Mathlib.Omega.{arith}
 use lib.ListN.{length, take}
 use lib.Seq.{length-take-le}
-use Rattle.field.proofs.Outcomes.{not_done}
+use Rattle.std.specs.Result.{is_ok}
+use Rattle.field.proofs.Outcomes.{ok_done, not_ok}
 use Rattle.field.proofs.Curves.{sizes, short_curve, short_sizes}
 use Rattle.field.proofs.Fields.{field_of}
 use Rattle.poly.proofs.Entries.{zeros}
@@ -19,11 +21,12 @@ use Rattle.code.specs.Word.{word_of}
 use Rattle.code.specs.Inner.Recovering.{BrokenOver}
 use Rattle.code.proofs.Recoveries.{reading_of}
 use Rattle.recovery.proofs.GapAnswers.{broken_0}
+use Rattle.mend.specs.Inner.Candidates.{OnlyNear}
 use Rattle.mend.specs.Inner.Locating.{reach, Erased}
 use Rattle.mend.proofs.Erasing.{locator_encodable, erased_front, erased_broken}
 use Rattle.mend.proofs.Candidates.{recovered_only, recovered_none}
 use Rattle.mend.proofs.candidate.read_rest.Goals as goal
-use Rattle.mend.proofs.candidate.read_rest.Goals.{After-erase, After-recover_over-r, After-write_word, Start}
+use Rattle.mend.proofs.candidate.read_rest.Goals.{After-erase, After-is_ok, After-recover_over, After-write_word, Start}
 
 -- the word fits the array
 room : (c : goal.Start) → length c.args.word.now ≤ 64
@@ -56,16 +59,16 @@ broken c =
     erased_broken x.q x.series x.m x.word.now c.requires.0 (reach x.q x.m) x.locator.now _ (erased (goal.at.After-erase c).After-erase)
 
 -- what recovery answers of it
-answer : (c : goal.After-recover_over-r) → let x = c.args in
+answer : (c : goal.After-recover_over) → let x = c.args in
     answer_of (reading_of x.q x.series x.m c.erase.new.located) x.message.now
-    ≡ answered c.recover_over-r.result c.recover_over-r.new.message
+    ≡ answered c.recover_over.result c.recover_over.new.message
 answer c =
     let x = c.args in
     ap (λ (Q : ℕ). answer_of (reading Q (size x.q x.m) (word_of x.q (columns_of x.q x.series) x.m) c.erase.new.located) x.message.now)
     (sym (sizes x.q (short_curve _ c.requires.0.curve)).size)
     ∙ ap (λ (l : List ℕ). answer_of (reading (field_of x.q).size (size x.q x.m) (word_of x.q (columns_of x.q x.series) x.m) l) x.message.now)
-    (sym (front_again _ c.erase.new.located _ (erased_long (goal.at.After-recover_over-r c).After-erase)))
-    ∙ c.recover_over-r.ensures
+    (sym (front_again _ c.erase.new.located _ (erased_long (goal.at.After-recover_over c).After-erase)))
+    ∙ c.recover_over.ensures
 
 pub write_word-requires : goal.write_word-requires
 write_word-requires c =
@@ -77,25 +80,28 @@ known_short_grid-grid-requires c =
     let q = c.args.q in let series = c.args.series in
     (subst (BrokenOver q (columns_of q series) 0) (sym (front_again _ c.erase.new.located _ (erased_long (goal.at.known_short_grid-grid-requires c).After-erase))) (broken_0 _ _ _ _ (broken (goal.at.known_short_grid-grid-requires c).After-erase)), c.requires.0.curve)
 
-pub recover_over-r-requires : goal.recover_over-r-requires
-recover_over-r-requires c =
+pub recover_over-requires : goal.recover_over-requires
+recover_over-requires c =
     let x = c.args in record {
       broken_over = (
-        subst (BrokenOver x.q (columns_of x.q x.series) x.m) (sym (front_again _ c.erase.new.located _ (erased_long (goal.at.recover_over-r-requires c).After-erase))) (broken (goal.at.recover_over-r-requires c).After-erase),
+        subst (BrokenOver x.q (columns_of x.q x.series) x.m) (sym (front_again _ c.erase.new.located _ (erased_long (goal.at.recover_over-requires c).After-erase))) (broken (goal.at.recover_over-requires c).After-erase),
         c.requires.3,
         c.requires.0.curve,
       );
       known_grid = c.known_short_grid-grid.ensures;
     }
 
-pub returns-in_default : goal.returns-in_default
-returns-in_default c =
+-- what is read is the only message that can be near, or else none is
+read : (c : goal.After-is_ok) (b : Bool) → is_ok c.recover_over.result ≡ b → let x = c.args in
+    OnlyNear x.q x.series x.m x.word.now c.recover_over.new.message b
+read c true e =
     let x = c.args in
-    recovered_none x.q x.series x.m x.word.now c.requires.0 x.locator.now _ c.requires.2 (erased (goal.at.returns-in_default c).After-erase) x.message.now _ _ (answer (goal.at.returns-in_default c).After-recover_over-r)
-    (not_done c.recover_over-r.result c.in_default.not-Done)
+    recovered_only x.q x.series x.m x.word.now c.requires.0 x.locator.now _ c.requires.2 (erased (goal.at.After-is_ok c).After-erase) x.message.now _ _ (answer (goal.at.After-is_ok c).After-recover_over)
+    (ok_done c.recover_over.result e)
+read c false e =
+    let x = c.args in
+    recovered_none x.q x.series x.m x.word.now c.requires.0 x.locator.now _ c.requires.2 (erased (goal.at.After-is_ok c).After-erase) x.message.now _ _ (answer (goal.at.After-is_ok c).After-recover_over)
+    (not_ok c.recover_over.result e)
 
 pub returns : goal.returns
-returns c =
-    let x = c.args in
-    recovered_only x.q x.series x.m x.word.now c.requires.0 x.locator.now _ c.requires.2 (erased (goal.at.returns c).After-erase) x.message.now _ _ (answer (goal.at.returns c).After-recover_over-r)
-    c.in-Done.is
+returns c = read (goal.at.returns c).After-is_ok c.is_ok.result (sym c.is_ok.ensures.value)

@@ -7,6 +7,3 @@ use Rattle.mend.proofs.difference.count.Given as goal
 
 abbrev pub invariant-loop-p : goal.invariant-loop-p
 invariant-loop-p l = (l.p ≤ length l.a) × (l.n ≤ l.p) × (l.n ≡ differing_below l.a l.b l.p)
-
-abbrev pub decreases-loop-p : goal.decreases-loop-p
-decreases-loop-p l = length l.a - l.p

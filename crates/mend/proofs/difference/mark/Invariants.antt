@@ -8,6 +8,3 @@ use Rattle.mend.proofs.difference.mark.Given as goal
 
 abbrev pub invariant-loop-p : goal.invariant-loop-p
 invariant-loop-p l = (l.p ≤ length l.a) × (length l.marks ≡ length l.initial.marks) × (l.marks ≡ writes l.initial.marks l.p (mark_at l.a l.b))
-
-abbrev pub decreases-loop-p : goal.decreases-loop-p
-decreases-loop-p l = length l.a - l.p

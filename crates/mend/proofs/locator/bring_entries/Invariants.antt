@@ -6,6 +6,3 @@ use Rattle.mend.proofs.locator.bring_entries.Given as goal
 
 abbrev pub invariant-loop-e : goal.invariant-loop-e
 invariant-loop-e l = (l.e ≤ l.n) × HoldsHeavy l.q l.m l.s 32 (grid_from l.n l.starts l.grids) l.work l.e
-
-abbrev pub decreases-loop-e : goal.decreases-loop-e
-decreases-loop-e l = l.n - l.e

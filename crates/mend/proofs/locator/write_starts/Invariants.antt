@@ -7,6 +7,3 @@ use Rattle.mend.proofs.locator.write_starts.Given as goal
 
 abbrev pub invariant-loop-n : goal.invariant-loop-n
 invariant-loop-n l = (l.n ≤ l.k) × (l.starts ≡ writes l.initial.starts l.n (start_of l.q l.s l.count))
-
-abbrev pub decreases-loop-n : goal.decreases-loop-n
-decreases-loop-n l = l.k - l.n

@@ -7,6 +7,3 @@ use Rattle.mend.proofs.product.times_y.Given as goal
 
 abbrev pub invariant-loop-e : goal.invariant-loop-e
 invariant-loop-e l = (l.e ≤ l.n) × (l.r ≡ writes l.initial.r l.e (λ ee. times_y_at l.q l.grid (ee / l.q) (ee % l.q)))
-
-abbrev pub decreases-loop-e : goal.decreases-loop-e
-decreases-loop-e l = l.n - l.e

@@ -11,6 +11,3 @@ invariant-loop-i l =
     (l.i ≤ l.count)
     × ((series : ℕ) (curve : IsCurve l.q)
     → Multiplying l.q (columns_of l.q series) (full_columns l.q series curve) (length_columns l.q series curve) l.first l.initial.out l.out l.grid l.i l.at)
-
-abbrev pub decreases-loop-i : goal.decreases-loop-i
-decreases-loop-i l = l.count - l.i

@@ -11,6 +11,3 @@ invariant-loop-j l =
     (l.j ≤ l.q)
     × ((curve : IsCurve l.q)
     → Producing l.q (columns_of l.q l.series) (full_columns l.q l.series curve) (length_columns l.q l.series curve) l.word l.count l.initial.grids l.grids l.grid l.j l.at)
-
-abbrev pub decreases-loop-j : goal.decreases-loop-j
-decreases-loop-j l = l.q - l.j

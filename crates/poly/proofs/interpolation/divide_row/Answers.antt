@@ -1,11 +1,12 @@
 -- `poly::interpolation::divide_row` meets its contract: a row divided by 1 is as it was.
 -- Assumes nothing.
-use mathlib.Core.Path.{ap, ◌∙◌}
+use mathlib.Core.Path.{sym, ap, ◌∙◌}
 use Prim.Native.Nat.{ℕ}
 use lib.ListN.{length}
 use Rattle.field.proofs.Fields.{field_of}
 use Rattle.poly.specs.Inner.Rows.{scaled}
-use Rattle.poly.proofs.LaneLaws.{lanes_below}
+use Rattle.poly.proofs.LaneLaws.{length_lanes, lanes_below}
+use Rattle.poly.proofs.Multiples.{stored_all}
 use Rattle.poly.proofs.Divisions.{divided_by_one, scaled_in_lanes}
 use Rattle.poly.proofs.interpolation.divide_row.Goals as goal
 
@@ -24,6 +25,7 @@ pub returns : goal.returns
 returns c =
     let a = c.args in
     let F = field_of a.q in
-    c.copy.ensures
+    c.copy_from_slice.ensures.after
+    ∙ sym (stored_all 16 c.scale-b.result a.row.now (ap length c.scale-b.ensures ∙ length_lanes _) c.requires.3)
     ∙ scaled_in_lanes F _ a.row.now _ _ c.requires.3 c.take-a.ensures c.scale-b.ensures
     ∙ ap (λ (u : ℕ). scaled F u (length a.row.now) a.row.now) c.inverse-c.ensures

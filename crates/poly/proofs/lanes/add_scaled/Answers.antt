@@ -18,7 +18,7 @@ unfolding plus
 loop-t-preserved c =
     let l = c.loop-t in
     let same = get_or-replicate 16 l.t c.args.c 0 c.loop-t-test.true in
-    (omega arith, simp length-set l.invariant.1, writes_turn _ _ l.r l.t _ l.invariant.2 (cc (same, c.times_short.ensures)))
+    (omega arith, simp length-set l.invariant.1, writes_turn _ _ l.r l.t _ l.invariant.2 (cc (same, c.times.ensures)))
 
 pub returns : goal.returns
 returns c = let l = c.loop-t in lanes_end _ l.r l.t l.invariant.2 l.invariant.0 c.loop-t-test.false

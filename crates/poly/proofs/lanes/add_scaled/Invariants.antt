@@ -1,6 +1,6 @@
 -- `poly::lanes::add_scaled` meets its contract. The invariant of its loop: the first t are written.
 use mathlib.Core.Path.{◌≡◌}
-use Prim.Native.Nat.{◌-◌, ◌≤◌}
+use Prim.Native.Nat.{◌≤◌}
 use lib.ListN.{length, replicate}
 use Rattle.field.specs.Plus.{plus}
 use Rattle.field.proofs.Fields.{field_of}
@@ -11,6 +11,3 @@ use Rattle.poly.proofs.lanes.add_scaled.Given as goal
 abbrev pub invariant-loop-t : goal.invariant-loop-t
 invariant-loop-t l =
     (l.t ≤ 16) × (length l.r ≡ 16) × (l.r ≡ writes (replicate 16 0) l.t (λ i. plus (entry l.a i) ((field_of l.q).times (entry l.b i) l.c)))
-
-abbrev pub decreases-loop-t : goal.decreases-loop-t
-decreases-loop-t l = 16 - l.t

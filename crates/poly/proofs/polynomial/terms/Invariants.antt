@@ -6,6 +6,3 @@ use Rattle.poly.proofs.polynomial.terms.Given as goal
 
 abbrev pub invariant-loop-i : goal.invariant-loop-i
 invariant-loop-i l = Terms (λ k. get_or l.list (l.stride * k + l.start) 0) l.count l.i
-
-abbrev pub decreases-loop-i : goal.decreases-loop-i
-decreases-loop-i l = l.i

@@ -5,6 +5,3 @@ use Rattle.poly.proofs.root_interpolation.sum_powers.Given as goal
 
 abbrev pub invariant-loop-i : goal.invariant-loop-i
 invariant-loop-i l = Summing (field_of l.q) l.places l.values l.initial.row l.row l.v l.i
-
-abbrev pub decreases-loop-i : goal.decreases-loop-i
-decreases-loop-i l = l.i

@@ -1,6 +1,6 @@
 -- `poly::rows::add` meets its contract. The invariant of its loop: the first j are written.
 use mathlib.Core.Path.{◌≡◌}
-use Prim.Native.Nat.{◌≤◌, ◌-◌}
+use Prim.Native.Nat.{◌≤◌}
 use lib.ListN.{length}
 use Rattle.field.specs.Plus.{plus}
 use Rattle.poly.specs.Inner.Ranges.{writes}
@@ -9,6 +9,3 @@ use Rattle.poly.proofs.rows.add.Given as goal
 
 abbrev pub invariant-loop-j : goal.invariant-loop-j
 invariant-loop-j l = (l.j ≤ l.n) × (length l.dst ≡ length l.initial.dst) × (l.dst ≡ writes l.initial.dst l.j (λ i. plus (entry l.initial.dst i) (entry l.src i)))
-
-abbrev pub decreases-loop-j : goal.decreases-loop-j
-decreases-loop-j l = l.n - l.j

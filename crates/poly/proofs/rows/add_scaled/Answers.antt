@@ -2,8 +2,9 @@
 -- Assumes nothing.
 use mathlib.Core.List.{List}
 use mathlib.Core.Path.{◌≡◌, ap, ap₂, ◌∙◌, subst}
-use Prim.Native.Nat.{ℕ, ◌+◌, ◌*◌, ◌≤◌, ◌<◌}
+use Prim.Native.Nat.{ℕ, ◌+◌, ◌-◌, ◌*◌, ◌≤◌, ◌<◌}
 use native.Mathlib.Omega.{arith}
+use borrow.Rule.Slice.PartMut.{put_mid}
 use lib.ListN.{length, get_or}
 use Rattle.field.specs.Plus.{plus}
 use Rattle.field.proofs.Fields.{field_of}
@@ -13,7 +14,7 @@ use Rattle.poly.specs.Inner.Rows.{added}
 use Rattle.poly.proofs.Fillings.{Filled, filled_turn, filled_writes}
 use Rattle.poly.proofs.LaneLaws.{length_lanes, lanes_at, lanes_below}
 use Rattle.poly.proofs.rows.add_scaled.Goals as goal
-use Rattle.poly.proofs.rows.add_scaled.Goals.{In-loop-at}
+use Rattle.poly.proofs.rows.add_scaled.Goals.{Start, In-loop-at, After-copy}
 
 -- what is written
 abbrev sums : ℕ → ℕ → List ℕ → List ℕ → ℕ → ℕ
@@ -38,36 +39,48 @@ fits c =
     let e : l.at + 16 ≤ 16 * c.args.blocks = omega (arith, l.invariant.1.is_at, c.loop-at-test.true) in
     (omega (arith, l.invariant.1.long, c.requires.blocks_in_bounds.1), omega (arith, c.requires.blocks_in_bounds.0), e)
 
+-- a block is written
+turned : (c : goal.After-copy) → let a = c.args in let l = c.loop-at in l.at + 16 ≤ length l.dst
+    → Filled 0 (sums a.q a.c a.src.now a.dst.now) a.dst.now (put_mid l.at (l.at + 16 - l.at) l.dst c.copy.new.dst) (l.at + 16)
+turned c room =
+    let a = c.args in
+    let l = c.loop-at in
+    let r = c.add_scaled-sum in
+    let u = c.take-a in
+    let v = c.take-b in
+    filled_turn 0 _ a.dst.now l.dst l.at l.at l.invariant.1 (omega arith) room _ _
+    (omega (arith, ap length r.ensures ∙ length_lanes _)) c.copy.ensures
+    (λ t k. ap (λ (x : List ℕ). get_or x t 0) r.ensures ∙ lanes_at _ t k
+    ∙ sum_at a.q a.c a.src.now a.dst.now l.dst l.at l.invariant.1 u.result v.result u.ensures v.ensures t k)
+
+-- all blocks are
+all : (c : goal.Start) (dst : List ℕ) (at : ℕ) → let a = c.args in
+    Filled 0 (sums a.q a.c a.src.now a.dst.now) a.dst.now dst at → at ≡ 16 * a.blocks → dst ≡ added (field_of a.q) a.c (16 * a.blocks) a.src.now a.dst.now
+unfolding added
+all c dst at h e =
+    let a = c.args in
+    filled_writes (16 * a.blocks) _ a.dst.now dst c.requires.blocks_in_bounds.1
+    (subst (λ (n : ℕ). Filled 0 (sums a.q a.c a.src.now a.dst.now) a.dst.now dst n) e h)
+
 pub add_scaled-sum-requires : goal.add_scaled-sum-requires
 add_scaled-sum-requires c =
-    let l = c.loop-at in (
+    let at = c.loop-at.at in (
       c.requires.c_bound.0,
       rw c.take-b.ensures
           (lanes_below _ (field_of c.args.q).size
-          (λ t k. c.requires.c_bound.1 (l.at + t) (omega (arith, (fits (goal.at.add_scaled-sum-requires c).In-loop-at).2)))),
+          (λ t k. c.requires.c_bound.1 (at + t) (omega (arith, (fits (goal.at.add_scaled-sum-requires c).In-loop-at).2)))),
       c.requires.c_bound.2,
     )
 
 pub loop-at-preserved : goal.loop-at-preserved
 loop-at-preserved c =
-    let a = c.args in
-    let l = c.loop-at in
-    let f = fits (goal.at.loop-at-preserved c).In-loop-at in
-    let r = c.add_scaled-sum in
-    let u = c.take-a in
-    let v = c.take-b in (
-      f.2,
-      filled_turn 0 _ a.dst.now l.dst l.at l.at l.invariant.1 (omega arith) f.0 _ _
-          (omega (arith, ap length r.ensures ∙ length_lanes _)) c.copy.ensures
-          (λ t k. ap (λ (x : List ℕ). get_or x t 0) r.ensures ∙ lanes_at _ t k
-          ∙ sum_at a.q a.c a.src.now a.dst.now l.dst l.at l.invariant.1 u.result v.result u.ensures v.ensures t k),
-    )
+    let room = fits (goal.at.loop-at-preserved c).In-loop-at in
+    (room.2, turned (goal.at.loop-at-preserved c).After-copy room.0)
 
 pub returns : goal.returns
-unfolding added
-returns c =
-    let l = c.loop-at in
-    let e : l.at ≡ 16 * c.args.blocks = omega (arith, l.invariant.0, c.loop-at-test.false) in
-    filled_writes (16 * c.args.blocks) _ c.args.dst.now l.dst c.requires.blocks_in_bounds.1
-    (subst (λ (n : ℕ). Filled 0 (sums c.args.q c.args.c c.args.src.now c.args.dst.now) c.args.dst.now
-    l.dst n) e l.invariant.1)
+returns c = all (goal.at.returns c).Start _ c.loop-at.at c.loop-at.invariant.1 (omega (arith, c.loop-at.invariant.0, c.loop-at-test.false))
+
+pub returns-2 : goal.returns-2
+returns-2 c =
+    let room = fits (goal.at.returns-2 c).In-loop-at in
+    all (goal.at.returns-2 c).Start _ (c.loop-at.at + 16) (turned (goal.at.returns-2 c).After-copy room.0) (omega (arith, room.2))

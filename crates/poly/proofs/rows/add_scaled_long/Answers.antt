@@ -20,10 +20,10 @@ pub loop-j-preserved : goal.loop-j-preserved
 loop-j-preserved c =
     let l = c.loop-j in
     let kept = writes_kept _ _ l.dst l.j l.invariant.2 in
-    let product = c.times_long.ensures ∙ (field_of 8).times_comm (entry c.args.src.now l.j) c.args.c in (
+    let product = c.times.ensures ∙ (field_of 8).times_comm (entry c.args.src.now l.j) c.args.c in (
       omega arith,
       simp length-set l.invariant.1,
-      writes_turn _ _ l.dst l.j _ l.invariant.2 (is_plus (entry l.dst l.j) c.times_long.result ∙ ap₂ plus kept product),
+      writes_turn _ _ l.dst l.j _ l.invariant.2 (is_plus (entry l.dst l.j) c.times.result ∙ ap₂ plus kept product),
     )
 
 pub returns : goal.returns

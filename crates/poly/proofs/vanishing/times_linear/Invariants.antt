@@ -1,7 +1,8 @@
--- `vanishing::times_linear` meets its contract. The loop's invariant: the first i are written, and before is what stood before i.
+-- `vanishing::times_linear` meets its contract. The loop's invariant: the first elements, up to the index, are written, and before is
+-- what stood before that.
 use mathlib.Core.Path.{◌≡◌}
-use Prim.Native.Nat.{◌≤◌, ◌-◌}
-use lib.ListN.{length}
+use mathlib.Core.List.{◌++◌}
+use lib.ListN.{drop}
 use Rattle.field.proofs.Fields.{field_of}
 use Rattle.poly.specs.Inner.Ranges.{writes}
 use Rattle.poly.specs.Inner.Linear.{entry}
@@ -9,9 +10,6 @@ use Rattle.poly.specs.Inner.Polynomials.{linear}
 use Rattle.poly.proofs.Values.{shift}
 use Rattle.poly.proofs.vanishing.times_linear.Given as goal
 
-abbrev pub invariant-loop-i : goal.invariant-loop-i
-invariant-loop-i l =
-    (l.i ≤ l.n) × (length l.out ≡ length l.initial.out) × (l.before ≡ shift (entry l.initial.out) l.i) × (l.out ≡ writes l.initial.out l.i (linear (field_of l.q) l.a (entry l.initial.out)))
-
-abbrev pub decreases-loop-i : goal.decreases-loop-i
-decreases-loop-i l = l.n - l.i
+abbrev pub invariant-loop-x : goal.invariant-loop-x
+invariant-loop-x l =
+    (l.before ≡ shift (entry l.fn.out) l.x-index) × (l.x-items ++ drop l.n l.fn.out ≡ writes l.fn.out l.x-index (linear (field_of l.q) l.a (entry l.fn.out)))

@@ -1,6 +1,6 @@
 -- `vanishing::write_polynomial` meets its contract. The loop's invariant: out vanishes at the columns from t on. Assumes nothing.
 use mathlib.Core.List.{List}
-use mathlib.Core.Path.{◌≡◌, refl, sym, ◌∙◌, subst}
+use mathlib.Core.Path.{◌≡◌, sym, ◌∙◌, subst}
 use Prim.Native.Nat.{ℕ}
 use native.Mathlib.Omega.{arith}
 use lib.ListN.{length, set, drop, length-set}
@@ -12,31 +12,25 @@ use Rattle.poly.proofs.vanishing.write_polynomial.Goals.{In-loop-t}
 
 -- in the loop, out is as long as it was
 long : (c : goal.In-loop-t) → length c.loop-t.out ≡ length c.args.out.now
-long c =
-    c.loop-t.invariant.1 ∙ length-set {A = ℕ} c.clear.new.row 0 1 ∙ c.clear.auto.row
+long c = c.loop-t.auto.out ∙ length-set {A = ℕ} c.fill.new.self 0 1 ∙ c.fill.auto.self
 
 pub loop-t-init : goal.loop-t-init
 loop-t-init c =
-    let F = field_of c.args.q in
-    let columns = c.args.columns.now in (
-      omega arith,
-      refl,
-      subst (λ (l : List ℕ). Vanishing F (drop (length columns) columns) (set l 0 1)) (sym c.clear.ensures)
-          (vanishing_none F columns (length c.args.out.now) (omega (arith, c.requires.1))),
-    )
+    let columns = c.args.columns.now in
+    subst (λ (l : List ℕ). Vanishing (field_of c.args.q) (drop (length columns) columns) (set l 0 1)) (sym (c.fill.ensures.after (λ y h. h)))
+    (vanishing_none (field_of c.args.q) columns (length c.args.out.now) (omega (arith, c.requires.1)))
 
 pub times_linear-requires : goal.times_linear-requires
-times_linear-requires c =
-    let l = c.loop-t in
-    (omega (arith, long (goal.at.times_linear-requires c).In-loop-t, c.requires.1), c.requires.0 _, vanishing_below (field_of c.args.q) _ _ l.invariant.2, c.requires.3)
+times_linear-requires c = (
+  omega (arith, long (goal.at.times_linear-requires c).In-loop-t, c.requires.1),
+  c.requires.0 _,
+  vanishing_below (field_of c.args.q) _ _ c.loop-t.invariant,
+  c.requires.3,
+)
 
 pub loop-t-preserved : goal.loop-t-preserved
 loop-t-preserved c =
     let l = c.loop-t in
-    let some = c.loop-t-test.true in (
-      omega arith,
-      c.times_linear.auto.out ∙ l.invariant.1,
-      subst (Vanishing (field_of c.args.q) _) (sym c.times_linear.ensures)
-          (vanishing_more (field_of c.args.q) c.args.columns.now l.out l.t some l.invariant.0
-          (omega (arith, long (goal.at.loop-t-preserved c).In-loop-t, c.requires.1)) l.invariant.2),
-    )
+    subst (Vanishing (field_of c.args.q) _) (sym c.times_linear.ensures)
+    (vanishing_more (field_of c.args.q) c.args.columns.now l.out l.t c.loop-t-test.true l.auto.t
+    (omega (arith, long (goal.at.loop-t-preserved c).In-loop-t, c.requires.1)) l.invariant)

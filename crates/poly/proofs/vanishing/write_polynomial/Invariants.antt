@@ -1,13 +1,8 @@
 -- `vanishing::write_polynomial` meets its contract. The loop's invariant: out vanishes at the columns from t on. Assumes nothing.
-use mathlib.Core.Path.{◌≡◌}
-use Prim.Native.Nat.{◌≤◌}
-use lib.ListN.{length, drop}
+use lib.ListN.{drop}
 use Rattle.field.proofs.Fields.{field_of}
 use Rattle.poly.specs.Inner.Polynomials.{Vanishing}
 use Rattle.poly.proofs.vanishing.write_polynomial.Given as goal
 
 abbrev pub invariant-loop-t : goal.invariant-loop-t
-invariant-loop-t l = (l.t ≤ length l.columns) × (length l.out ≡ length l.initial.out) × Vanishing (field_of l.q) (drop l.t l.columns) l.out
-
-abbrev pub decreases-loop-t : goal.decreases-loop-t
-decreases-loop-t l = l.t
+invariant-loop-t l = Vanishing (field_of l.q) (drop l.t l.columns) l.out

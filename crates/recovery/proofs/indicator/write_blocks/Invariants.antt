@@ -4,6 +4,3 @@ use Rattle.recovery.proofs.indicator.write_blocks.Given as goal
 
 abbrev pub invariant-loop-b : goal.invariant-loop-b
 invariant-loop-b l = BlocksFrom l.q l.c l.count l.last l.initial.grid l.grid l.factor l.b
-
-abbrev pub decreases-loop-b : goal.decreases-loop-b
-decreases-loop-b l = l.b

@@ -7,7 +7,7 @@ use Prim.Native.Nat.{◌*◌, ◌≤◌}
 use native.Mathlib.Omega.{arith}
 use lib.ListN.{length, take, drop}
 use lib.Seq.{length-take-le}
-use Rattle.field.specs.declared.outcome.Outcome.TheVariants.{Done}
+use Rattle.field.specs.Outcomes.{Done}
 use Rattle.field.proofs.Fields.{field_of}
 use Rattle.field.proofs.FieldLaws.{zero_lt}
 use Rattle.poly.proofs.Entries.{zeros, below_zeros}

@@ -9,6 +9,3 @@ use Rattle.systematic.proofs.completion.mark_symbols.Given as goal
 
 abbrev pub invariant-loop-p : goal.invariant-loop-p
 invariant-loop-p l = (l.p ≤ length l.word) × (length l.high ≡ length l.initial.high) × (l.high ≡ writes l.initial.high l.p (λ pp. 255 * one_if (present l.word pp)))
-
-abbrev pub decreases-loop-p : goal.decreases-loop-p
-decreases-loop-p l = length l.word - l.p

@@ -7,6 +7,3 @@ use Rattle.systematic.proofs.places.place.Given as goal
 
 abbrev pub invariant-loop-i : goal.invariant-loop-i
 invariant-loop-i l = (l.i ≤ length l.places) × (length l.word ≡ length l.initial.word) × (l.word ≡ laid l.places l.symbols l.initial.word l.i)
-
-abbrev pub decreases-loop-i : goal.decreases-loop-i
-decreases-loop-i l = length l.places - l.i

@@ -2,7 +2,7 @@
 -- Assumes nothing.
 use mathlib.Core.List.{List}
 use mathlib.Core.Path.{◌≡◌, ap, ap₂, ◌∙◌, subst}
-use Prim.Native.Nat.{ℕ, ◌+◌, ◌≤◌, ◌<◌}
+use Prim.Native.Nat.{ℕ, ◌+◌, ◌*◌, ◌≤◌, ◌<◌}
 use native.Mathlib.Omega.{arith}
 use lib.ListN.{length, get_or}
 use Rattle.field.proofs.Fields.{field_of}
@@ -11,7 +11,7 @@ use Rattle.poly.specs.Inner.Linear.{entry}
 use Rattle.poly.proofs.Fillings.{Filled, filled_turn, filled_writes, filled_below}
 use Rattle.poly.proofs.LaneLaws.{length_lanes, lanes_at, lanes_below}
 use Rattle.systematic.proofs.term_words.multiply.Goals as goal
-use Rattle.systematic.proofs.term_words.multiply.Goals.{In-loop-j}
+use Rattle.systematic.proofs.term_words.multiply.Goals.{In-loop-i}
 
 -- what is written
 abbrev products : ℕ → List ℕ → List ℕ → ℕ → ℕ
@@ -29,44 +29,41 @@ product_at q by row₀ row j h a old is-a is-old t l =
     (ap (λ (x : List ℕ). get_or x t 0) is-old ∙ lanes_at _ t l ∙ kept)
 
 -- a block is within the lists
-fits : (c : goal.In-loop-j) → (c.loop-j.j + 16 ≤ length c.loop-j.row) × (c.loop-j.j + 16 ≤ length c.args.by.now)
-    × (c.loop-j.j + 16 ≤ length c.args.row.now)
+fits : (c : goal.In-loop-i) → (16 * c.loop-i.i + 16 ≤ length c.loop-i.row) × (16 * c.loop-i.i + 16 ≤ length c.args.by.now)
 fits c =
-    let l = c.loop-j in
-    let e : l.j + 16 ≤ length c.args.row.now = omega (arith, l.invariant.1.is_at, l.invariant.1.long, c.loop-j-test.true, c.requires.row_len.0) in
-    (omega (arith, l.invariant.1.long), omega (arith, c.requires.row_len.1), e)
+    let e : 16 * c.loop-i.i + 16 ≤ length c.args.row.now = omega (arith, c.loop-i-test.true) in
+    (omega (arith, c.loop-i.auto.row), omega (arith, c.requires.row_len.1))
 
-pub multiply_short-new-requires : goal.multiply_short-new-requires
-multiply_short-new-requires c =
-    let l = c.loop-j in
+pub multiply_in-new-requires-clause-symbols : goal.multiply_in-new-requires-clause-symbols
+multiply_in-new-requires-clause-symbols c =
+    let l = c.loop-i in
     let n = (field_of c.args.q).size in (
-      rw c.take-a.ensures (lanes_below _ n (λ t k. c.requires.below.0 (l.j + t))),
+      rw c.take-a.ensures (lanes_below _ n (λ t k. c.requires.below.0 (16 * l.i + t))),
       rw c.take-old.ensures
-          (lanes_below _ n (λ t k. filled_below n _ c.args.row.now l.row l.j l.invariant.1 c.requires.below.1
-          (λ e. (field_of c.args.q).times_lt _ _) (l.j + t))),
-      c.requires.row_len.2,
+          (lanes_below _ n (λ t k. filled_below n _ c.args.row.now l.row (16 * l.i) l.invariant c.requires.below.1
+          (λ e. (field_of c.args.q).times_lt _ _) (16 * l.i + t))),
     )
 
-pub loop-j-preserved : goal.loop-j-preserved
-loop-j-preserved c =
+pub loop-i-preserved : goal.loop-i-preserved
+loop-i-preserved c =
     let a = c.args in
-    let l = c.loop-j in
-    let f = fits (goal.at.loop-j-preserved c).In-loop-j in
-    let r = c.multiply_short-new in
+    let l = c.loop-i in
+    let j = 16 * l.i in
+    let r = c.multiply_in-new in
     let old = c.take-old in
-    let by = c.take-a in (
-      f.2,
-      filled_turn 0 _ a.row.now l.row l.j l.j l.invariant.1 (omega arith) f.0 _ _
-          (omega (arith, ap length r.ensures ∙ length_lanes _)) c.copy.ensures
-          (λ t k. ap (λ (x : List ℕ). get_or x t 0) r.ensures ∙ lanes_at _ t k
-          ∙ product_at a.q a.by.now a.row.now l.row l.j l.invariant.1 by.result old.result by.ensures old.ensures t k),
-    )
+    let by = c.take-a in
+    let next : 16 * (l.i + 1) ≡ j + 16 = omega arith in
+    rw next
+    (filled_turn 0 _ a.row.now l.row j j l.invariant (omega arith) (fits (goal.at.loop-i-preserved c).In-loop-i).0 _ _
+    (omega (arith, ap length r.ensures ∙ length_lanes _)) c.copy.ensures
+    (λ t k. ap (λ (x : List ℕ). get_or x t 0) r.ensures ∙ lanes_at _ t k
+    ∙ product_at a.q a.by.now a.row.now l.row j l.invariant by.result old.result by.ensures old.ensures t k))
 
 pub returns : goal.returns
 returns c =
     let a = c.args in
-    let l = c.loop-j in
+    let l = c.loop-i in
     let n = length a.row.now in
-    let e : l.j ≡ n = omega (arith, l.invariant.0, c.loop-j-test.false, l.invariant.1.long) in
+    let e : 16 * l.i ≡ n = omega (arith, l.auto.i-end, c.loop-i-test.false, c.requires.row_len.0) in
     filled_writes n _ a.row.now l.row (omega arith)
-    (subst (λ (x : ℕ). Filled 0 (products a.q a.by.now a.row.now) a.row.now l.row x) e l.invariant.1)
+    (subst (λ (x : ℕ). Filled 0 (products a.q a.by.now a.row.now) a.row.now l.row x) e l.invariant)

@@ -5,6 +5,3 @@ use Rattle.systematic.proofs.term_words.write_points.Given as goal
 
 abbrev pub invariant-loop-p : goal.invariant-loop-p
 invariant-loop-p l = (l.p ≤ l.n) × PointsBelow l.q l.columns l.initial.xs l.initial.ys l.xs l.ys l.p
-
-abbrev pub decreases-loop-p : goal.decreases-loop-p
-decreases-loop-p l = l.n - l.p

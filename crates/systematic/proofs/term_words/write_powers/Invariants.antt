@@ -5,6 +5,3 @@ use Rattle.systematic.proofs.term_words.write_powers.Given as goal
 
 abbrev pub invariant-loop-i : goal.invariant-loop-i
 invariant-loop-i l = PowersBelow l.q l.base l.initial.table l.table l.row l.at l.i
-
-abbrev pub decreases-loop-i : goal.decreases-loop-i
-decreases-loop-i l = l.count - l.i

@@ -5,6 +5,3 @@ use Rattle.systematic.proofs.term_words.write_products.Given as goal
 
 abbrev pub invariant-loop-t : goal.invariant-loop-t
 invariant-loop-t l = ProductsBelow l.q l.m l.xpowers l.ypowers l.initial.vectors l.vectors l.at l.t
-
-abbrev pub decreases-loop-t : goal.decreases-loop-t
-decreases-loop-t l = l.k - l.t

@@ -1,9 +1,0 @@
--- `points::long_columns_ascending` meets its contract: it computes.
--- Assumes nothing.
-use mathlib.Core.Path.{refl}
-use Rattle.points.specs.Passing.{passing}
-use Rattle.points.proofs.long_columns_ascending.Goals as goal
-
-pub returns : goal.returns
-unfolding passing
-returns c = refl

@@ -24,7 +24,7 @@ use Rattle.job.specs.Task.{stored_word, task_of}
 use Rattle.job.specs.Opened.{open_checks}
 use Rattle.job.specs.Carried.{Result, onward, replied, carried, WrittenOnlyWithMessage}
 use Rattle.job.specs.Sound.{Standing, Sound}
-use Rattle.job.specs.Inner.Bringing.{Usable, Tested, Brings, is_complete, reply_by}
+use Rattle.job.specs.Inner.Bringing.{Usable, Tested, Brings, is_complete, complete_after, reply_by}
 use Rattle.job.proofs.Openings.{open_block, open_order, open_broken, open_short}
 use Rattle.job.proofs.Calls.{carried_takes}
 use Rattle.job.proofs.Tellings.{gives}
@@ -181,26 +181,29 @@ module _ (j : Job) (k n : ℕ) (g : Given j k n) where
       stands : Standing j.q j.series j.m (stored_word j) work candidate whole r.next (is_complete (size j.q j.m) r.rank) (is_none r.rank)
       stands = brought.stands h.stands
 
-      sound_after : Sound after
-      sound_after =
+      -- after a clash the flag `complete` is not read
+      stands_by : (rows : Option ℕ) (complete was found : Bool) (rank : ℕ) → complete ≡ complete_after (size j.q j.m) was found rank rows
+          → Standing j.q j.series j.m (stored_word j) work candidate whole r.next (is_complete (size j.q j.m) rows) (is_none rows)
+          → Standing j.q j.series j.m (stored_word j) work candidate whole r.next complete (is_none rows)
+      stands_by None complete was found rank e s = s
+      stands_by (Some rows) complete was found rank e s =
+          subst (λ (x : Bool). Standing j.q j.series j.m (stored_word j) work candidate whole r.next x false) (sym e) s
+
+      pub sound_by : (complete clash was found : Bool) (rank : ℕ) → complete ≡ complete_after k was found rank r.rank → clash ≡ is_none r.rank
+          → Sound (after_by complete clash)
+      sound_by complete clash was found rank e f =
           record {
             passes = h.passes;
             within = brought.counts.within;
             stands =
                 subst (λ (x : List ℕ). Standing j.q j.series j.m (stored_word j) work x (take (length (stored_word j)) (whole ++ drop n j.whole))
-                r.next
-                (is_complete k r.rank) (is_none r.rank)) (sym (take_at candidate (drop k j.candidate) (size j.q j.m) (left.candidate_kept
+                r.next complete clash) (sym (take_at candidate (drop k j.candidate) (size j.q j.m) (left.candidate_kept
                 ∙ candidate_taken ∙ g.is_k)))
-                (subst (λ (x : List ℕ). Standing j.q j.series j.m (stored_word j) work candidate x r.next (is_complete k r.rank) (is_none r.rank))
+                (subst (λ (x : List ℕ). Standing j.q j.series j.m (stored_word j) work candidate x r.next complete clash)
                 (sym (take_at whole (drop n j.whole) (length (stored_word j)) (left.whole_kept ∙ whole_taken ∙ sym word_long)))
-                (subst (λ (x : ℕ). Standing j.q j.series j.m (stored_word j) work candidate whole r.next (is_complete x r.rank) (is_none r.rank)) (sym
-                g.is_k) stands));
+                (subst (λ (x : Bool). Standing j.q j.series j.m (stored_word j) work candidate whole r.next complete x) (sym f)
+                (stands_by r.rank complete was found rank (e ∙ ap (λ (x : ℕ). complete_after x was found rank r.rank) g.is_k) stands)));
           }
-
-      pub sound_by : (complete clash : Bool) → complete ≡ is_complete k r.rank → clash ≡ is_none r.rank → Sound (after_by complete clash)
-      sound_by complete clash e f =
-          subst (λ (x : Bool). Sound (after_by x clash)) (sym e)
-          (subst (λ (x : Bool). Sound (after_by (is_complete k r.rank) x)) (sym f) sound_after)
 
       module _ (slice : List ℕ) (room : length slice ≡ k) where
         -- the task goes on by the number brought in

@@ -6,7 +6,8 @@ pub mod testing;
 pub mod turns;
 pub mod work;
 
-ghost use Rattle.std.specs.Prelude.{true, ◌↔◌, ◌≡◌, ◌≤◌, length, IfSome};
+ghost use Rattle.std.specs.Prelude.{true, ◌↔◌, ◌≡◌, ◌*◌, ◌≤◌, ◌<◌, length, IfSome};
+ghost use Rattle.linear.specs.Inner.Systems.{flat, rank};
 ghost use Rattle.field.specs.Outcomes.{Done};
 ghost use Rattle.job.specs.declared.Reply.TheVariants.{Refused, Finished};
 ghost use Rattle.job.specs.Task.{task_of};
@@ -14,7 +15,7 @@ ghost use Rattle.job.specs.Opened.{opened};
 ghost use Rattle.job.specs.Replies.{outcome_of};
 ghost use Rattle.job.specs.Carried.{carried, WrittenOnlyWithMessage};
 ghost use Rattle.job.specs.Sound.{Sound};
-ghost use Rattle.job.specs.Inner.Bringing.{Fresh, reply_by};
+ghost use Rattle.job.specs.Inner.Bringing.{Fresh, complete_after, reply_by};
 
 use bringing::Progress;
 use code::term;
@@ -117,6 +118,18 @@ fn tell(k: usize, n: usize, r: Progress) -> Reply
     })
 }
 
+// Whether the rows are complete after a call, by its rows. In a call that finds a clash they are if they were, or if it had completed them before; in
+// those after it they aren't.
+fn complete_after(k: usize, complete: bool, clash: bool, area: &[u8], rows: Option<usize>) -> bool
+    requires { (k < 64) × (length area.now ≡ 4096) }
+    ensures { result ≡ complete_after k complete clash (rank k (flat 64 k area.now)) rows }
+{
+    match rows {
+        Some(rows) => rows == k,
+        None => !clash && (complete || work::rank(k, area) == k),
+    }
+}
+
 // Whether a call gives a message, which then stands in the slice.
 pub fn is_message(reply: Reply) -> bool
     ensures { (result ≡ true) ↔ (reply ≡ Finished Done) }
@@ -186,7 +199,7 @@ impl Job {
                 self.candidate = candidate;
                 self.whole = whole;
                 self.next = r.next as u16;
-                self.complete = r.rank == Some(k);
+                self.complete = complete_after(k, self.complete, self.clash, &self.work, r.rank);
                 self.clash = r.rank.is_none();
                 let said = tell(k, n, r);
                 if is_message(said) {

@@ -4,20 +4,11 @@ use mathlib.Core.Bool.{false}
 use mathlib.Core.List.{List, [], ◌∷◌, map}
 use mathlib.Core.Logic.{◌⊎◌, inl, inr}
 use mathlib.Core.Path.{◌≡◌, refl, ap, ◌∙◌}
-use Prim.Native.Nat.{ℕ, ◌+◌, ◌≤◌, ◌<◌}
+use Prim.Native.Nat.{ℕ, ◌+◌, ◌≤◌, ◌<◌, min}
 use native.Mathlib.Numerals.{add-one}
 use native.Mathlib.Omega.{arith}
 use lib.Dec.{eqb}
 use native.Mathlib.Decide.{dec_lt}
-use Rattle.std.specs.List.{zip}
-use Rattle.std.specs.Iterator.Adapters.{zip_first, zip_second}
-use Rattle.std.specs.Slice.Iter.{iter_rest}
-use Rattle.std.specs.declared.iter.Zip.{Zip}
-use Rattle.std.proofs.Common.{Iter}
-use Rattle.std.proofs.iter.Yields.{fronts}
-use Rattle.std.proofs.lemmas.Grind.{get_or_default_zero}
-use Rattle.std.proofs.lemmas.Iterator.{YieldsList, YieldsList-from_slice, YieldsList-from_zip, zips}
-use Rattle.std.proofs.lemmas.Slice.Zip.{length-zip, get_or-zip}
 use lib.ListN.{length, get_or, drop, length-drop}
 use lib.Seq.{drop-cons}
 use Rattle.field.specs.Outcomes.{Done, number}
@@ -38,42 +29,14 @@ unfolding arrivals
 arrivals_of [] = refl
 arrivals_of (a ∷ list) = ap (λ (events : List Event). Arrival a.0 a.1 a.2 ∷ events) (arrivals_of list)
 
--- the loop goes over the three lists at once
-module _ (places symbols rounds : List ℕ) where
-  abbrev triples : List ((ℕ × ℕ) × ℕ)
-  triples = zip (zip places symbols) rounds
-
-  pub triple_walk : {s : Zip (Zip (Iter ℕ) (Iter ℕ)) (Iter ℕ)} → iter_rest (zip_first (zip_first s)) ≡ places → iter_rest (zip_second (zip_first s)) ≡ symbols
-      → iter_rest (zip_second s) ≡ rounds → YieldsList (zips (zips fronts fronts) fronts) (λ t. ((t.0.0.now, t.0.1.now), t.1.now)) s triples
-  triple_walk e f g = YieldsList-from_zip (YieldsList-from_zip (YieldsList-from_slice places e) (YieldsList-from_slice symbols f)) (YieldsList-from_slice rounds g)
-
-  -- what it is given in turn i
-  pub triple_turn : (i p s r : ℕ) → (i < length triples) × (((p, s), r) ≡ get_or triples i ((p, s), r))
-      → (i < length places) × (i < length symbols) × (i < length rounds)
-      × (p ≡ get_or places i 0) × (s ≡ get_or symbols i 0) × (r ≡ get_or rounds i 0)
-  triple_turn i p s r h =
-      let l : i < length places = omega (arith, h.0, length-zip (zip places symbols) rounds, length-zip places symbols) in
-      let m : i < length symbols = omega (arith, h.0, length-zip (zip places symbols) rounds, length-zip places symbols) in
-      let n : i < length rounds = omega (arith, h.0, length-zip (zip places symbols) rounds) in
-      let b : i < length (zip places symbols) = omega (arith, length-zip places symbols) in
-      let e = h.1 ∙ get_or-zip (zip places symbols) rounds i ((p, s), r) b n in
-      let f = ap (λ (t : (ℕ × ℕ) × ℕ). t.0) e ∙ get_or-zip places symbols i (p, s) l m in (
-        l,
-        m,
-        n,
-        ap (λ (t : ℕ × ℕ). t.0) f ∙ get_or_default_zero places i p l,
-        ap (λ (t : ℕ × ℕ). t.1) f ∙ get_or_default_zero symbols i s m,
-        ap (λ (t : (ℕ × ℕ) × ℕ). t.1) e ∙ get_or_default_zero rounds i r n,
-      )
-
-  -- after the last turn
-  pub triple_end : (i : ℕ) → i ≡ length triples → (length places ≤ i) ⊎ ((length symbols ≤ i) ⊎ (length rounds ≤ i))
-  triple_end i e = go (dec_lt i (length places)) (dec_lt i (length symbols))
-    where
-      go : Dec (i < length places) → Dec (i < length symbols) → (length places ≤ i) ⊎ ((length symbols ≤ i) ⊎ (length rounds ≤ i))
-      go (no d) t = inl (omega arith)
-      go (yes l) (no d) = inr (inl (omega arith))
-      go (yes l) (yes m) = inr (inr (omega (arith, length-zip (zip places symbols) rounds, length-zip places symbols)))
+-- the loop ends with the shortest of the three lists
+pub least_end : (a b c i : ℕ) → min (min a b) c ≤ i → (a ≤ i) ⊎ ((b ≤ i) ⊎ (c ≤ i))
+least_end a b c i l = go (dec_lt i a) (dec_lt i b)
+  where
+    go : Dec (i < a) → Dec (i < b) → (a ≤ i) ⊎ ((b ≤ i) ⊎ (c ≤ i))
+    go (no d) t = inl (omega arith)
+    go (yes e) (no d) = inr (inl (omega arith))
+    go (yes e) (yes f) = inr (inr (omega (arith, l)))
 
 -- what is left of the lists from i on: one more arrival, or none
 module _ (s : Session) (places symbols rounds : List ℕ) (i : ℕ) where

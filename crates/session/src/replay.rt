@@ -10,8 +10,10 @@ use field::Outcome;
 fn receive(mut session: Session, places: &[u16], symbols: &[u8], rounds: &[u8]) -> Session
     ensures { result ≡ session_from session (arrivals places.now symbols.now rounds.now) }
 {
-    for ((place, symbol), round) in places.iter().zip(symbols).zip(rounds) {
-        session = session.arrive(*place, *symbol, *round).session;
+    let count = places.len().min(symbols.len()).min(rounds.len());
+    // kept: over a range: the edit that leaves the first arrival out changes a number alone.
+    for i in 0..count {
+        session = session.arrive(places[i], symbols[i], rounds[i]).session;
     }
     session
 }

@@ -1,5 +1,5 @@
 -- What the functions that bring symbols in ask and give.
-use Rattle.std.specs.Prelude.{Bool, true, false, Option, Some, None, is_none, Err, cond, List, ◌++◌, ◌⊎◌, ◌≡◌, ℕ, ◌+◌, ◌-◌, ◌*◌, ◌≤◌, ◌<◌, eqb, ltb, length, get_or, take, replicate}
+use Rattle.std.specs.Prelude.{Bool, true, false, not, ◌&&◌, ◌||◌, Option, Some, None, is_none, Err, cond, List, ◌++◌, ◌⊎◌, ◌≡◌, ℕ, ◌+◌, ◌-◌, ◌*◌, ◌≤◌, ◌<◌, eqb, ltb, length, get_or, take, replicate}
 use Rattle.std.specs.Option.{option_eq}
 use Rattle.field.specs.Outcomes.{Outcome, Done}
 use Rattle.field.specs.declared.outcome.Refusal.TheVariants.{NoMessage, Several}
@@ -79,6 +79,11 @@ pub record Fresh (q series m : ℕ) (word : List ℕ) (j : Job) : Type 0 where
 -- whether the rows that `bring` leaves, none after a clash, are complete
 abbrev pub is_complete : ℕ → Option ℕ → Bool
 is_complete k rows = option_eq eqb rows (Some k)
+
+-- and whether they count as complete after the call: after the clash that it finds, if they were, or if the system has all k rows
+abbrev pub complete_after : ℕ → Bool → Bool → ℕ → Option ℕ → Bool
+complete_after k complete clash rank None = not clash && (complete || eqb rank k)
+complete_after k complete clash rank (Some rows) = eqb rows k
 
 -- the reply by them, while symbols remain and at the end
 abbrev pub working_by : ℕ → Option ℕ → Reply

@@ -130,6 +130,9 @@ overflow_cast-self c =
     let a = at b in
     omega (arith, next_fits (job a) (k a) (n a) (given a) (budget b) (work b) (candidate b) (whole b) b.bring-r.result (left b))
 
+pub complete_after-requires : goal.complete_after-requires
+complete_after-requires c = let a = at (goal.at.complete_after-requires c).After-bring-r in (short (job a) (k a) (n a) (given a), search rules)
+
 pub tell-said-requires : goal.tell-said-requires
 tell-said-requires c =
     let b = (goal.at.tell-said-requires c).After-bring-r in
@@ -174,7 +177,7 @@ returns-then-is_message c =
           said.ensures d copied;
       job_value = λ f. absurd (not_refused (k a) (n a) b.bring-r.result (sym said.ensures ∙ f));
       sound = λ h. (
-        sound_by (job a) (k a) (n a) (given a) (budget b) (work b) (candidate b) (whole b) b.bring-r.result (left b) h _ _ c.eq.ensures (opposite _ _ c.is_none.ensures),
+        sound_by (job a) (k a) (n a) (given a) (budget b) (work b) (candidate b) (whole b) b.bring-r.result (left b) h _ _ _ _ _ c.complete_after.ensures (opposite _ _ c.is_none.ensures),
         gives_message (job a) (k a) (n a) (given a) (budget b) (work b) (candidate b) (whole b) b.bring-r.result (left b) h slice room
             said.result out said.ensures d copied,
       );
@@ -191,7 +194,7 @@ returns-else-is_message c =
       written_only_with_message = inl refl;
       job_value = λ f. absurd (not_refused (k a) (n a) b.bring-r.result (sym said.ensures ∙ f));
       sound = λ h. (
-        sound_by (job a) (k a) (n a) (given a) (budget b) (work b) (candidate b) (whole b) b.bring-r.result (left b) h _ _ c.eq.ensures (opposite _ _ c.is_none.ensures),
+        sound_by (job a) (k a) (n a) (given a) (budget b) (work b) (candidate b) (whole b) b.bring-r.result (left b) h _ _ _ _ _ c.complete_after.ensures (opposite _ _ c.is_none.ensures),
         gives_other (job a) (k a) (n a) (given a) (budget b) (work b) (candidate b) (whole b) b.bring-r.result (left b) h slice room
             said.result said.ensures
             (λ f. false≢true (sym c.if-is_message.false ∙ c.is_message.ensures.1 f)),
